@@ -1,0 +1,214 @@
+/* Tishkolan: cells of a body-centred cubic lattice, each call proved.
+ *
+ * Every call takes all numbers, bytes and lengths, ends, and answers or refuses.
+ * A cell is 16 bytes, big-endian: z, y, x (32 bits each, two's complement), then
+ * reserved (4 bits), flags (8), exponent (4), resolution (8), frame (8).
+ * A double crosses as its 64 bits: see tishkolan_bits_of and tishkolan_double_of.
+ * A buffer is a pointer and a length, in elements; NULL with length 0 is fine.
+ * A call that answers into a buffer fills its front and leaves the rest as it was;
+ * a call that refuses leaves all of it as it was.
+ */
+#ifndef TISHKOLAN_H
+#define TISHKOLAN_H
+
+#include <stdbool.h>
+#include <stddef.h>
+#include <stdint.h>
+#include <string.h>
+
+#ifdef __cplusplus
+extern "C" {
+#endif
+
+/* The refusals' numbers. 0 says that the call answered. */
+enum {
+    TISHKOLAN_ANSWERED = 0,
+    TISHKOLAN_INVALID_PARITY = 1,        /* carries x, y, z */
+    TISHKOLAN_NO_PARENT = 2,
+    TISHKOLAN_NO_CHILDREN = 3,
+    TISHKOLAN_OUT_OF_RANGE = 4,
+    TISHKOLAN_NO_VALUES = 5,
+    TISHKOLAN_HAS_NAN = 6,
+    TISHKOLAN_SEARCH_LIMIT_EXCEEDED = 7, /* carries expansions, limit */
+    TISHKOLAN_NO_PATH_FOUND = 8,         /* carries start, goal */
+    TISHKOLAN_COORD_OVERFLOW = 9,
+    TISHKOLAN_NO_ROOM = 10,              /* carries the room: 1 known, 2 waiting, 3 output, 4 layer */
+    TISHKOLAN_BAD_WORKSPACE = 11,
+    TISHKOLAN_BAD_FILE = 12,             /* carries the byte place */
+    TISHKOLAN_BAD_LIST = 13,             /* a single cell of another length than 16 */
+    TISHKOLAN_BAD_LAYER = 14,
+    TISHKOLAN_BAD_RULE = 15
+};
+
+enum { TISHKOLAN_CELL_BYTES = 16, TISHKOLAN_NEIGHBORS = 14, TISHKOLAN_CHILDREN = 8 };
+
+/* What a call says beside its answer. A field that the refusal does not carry is 0. */
+typedef struct {
+    uint32_t number; /* 0, or the refusal's number */
+    uint32_t room;   /* of NO_ROOM */
+    int32_t x, y, z; /* of INVALID_PARITY */
+} tishkolan_refusal;
+
+/* An answer beside its refusal is 0 in every field where the call refuses. */
+typedef struct {
+    tishkolan_refusal refusal;
+    int32_t value;
+} tishkolan_number_answer;
+
+typedef struct {
+    tishkolan_refusal refusal;
+    uint64_t bits; /* of a double */
+} tishkolan_bits_answer;
+
+typedef struct {
+    tishkolan_refusal refusal;
+    int32_t x, y, z;
+} tishkolan_coord_answer;
+
+typedef struct {
+    tishkolan_refusal refusal;
+    uint64_t x, y, z; /* bits of doubles */
+} tishkolan_point_answer;
+
+typedef struct {
+    tishkolan_refusal refusal;
+    uint8_t frame, resolution, exponent, flags, reserved;
+    int32_t x, y, z;
+} tishkolan_fields_answer;
+
+static inline uint64_t tishkolan_bits_of(double value)
+{
+    uint64_t bits;
+    memcpy(&bits, &value, sizeof bits);
+    return bits;
+}
+
+static inline double tishkolan_double_of(uint64_t bits)
+{
+    double value;
+    memcpy(&value, &bits, sizeof value);
+    return value;
+}
+
+/* ---- square root */
+
+/* The double nearest to the square root, for +0.0 and for whole values from 1 to 2^64.
+ * Anything else (-0.0, fractions, infinities, NaN) is OUT_OF_RANGE. */
+tishkolan_bits_answer tishkolan_square_root(uint64_t bits);
+
+/* ---- lattice: points by their coordinates.
+ * A point of the lattice has coordinates that are all even or all odd; a call on
+ * another point is INVALID_PARITY, with that point, before anything else. */
+
+/* 0 even, 1 odd. INVALID_PARITY where the coordinates are mixed. */
+tishkolan_number_answer tishkolan_parity(int32_t x, int32_t y, int32_t z);
+
+/* 1 for 0, and 0 for 1. OUT_OF_RANGE for any other number. */
+tishkolan_number_answer tishkolan_opposite(uint32_t parity);
+
+/* Whether the coordinates are all even or all odd. Refuses nothing. */
+bool tishkolan_is_valid_lattice_point(int32_t x, int32_t y, int32_t z);
+
+/* The 14 neighbours as 42 numbers x, y, z: first the eight diagonal ones.
+ * INVALID_PARITY; COORD_OVERFLOW unless each coordinate is in -2147483646..=2147483645;
+ * NO_ROOM 3 where out is shorter than 42 numbers. */
+tishkolan_refusal tishkolan_lattice_neighbors(int32_t x, int32_t y, int32_t z,
+                                              int32_t *out, size_t out_length);
+
+/* The 8 children, one resolution finer, as 24 numbers x, y, z.
+ * INVALID_PARITY; COORD_OVERFLOW unless x is in -1073741824..=1073741822 and y, z in
+ * -1073741823..=1073741822; NO_ROOM 3 where out is shorter than 24 numbers. */
+tishkolan_refusal tishkolan_lattice_children(int32_t x, int32_t y, int32_t z,
+                                             int32_t *out, size_t out_length);
+
+/* The parent, one resolution coarser. INVALID_PARITY. */
+tishkolan_coord_answer tishkolan_lattice_parent(int32_t x, int32_t y, int32_t z);
+
+/* The lattice point nearest to a physical point, given by the bits of its coordinates,
+ * which are multiplied by 2^resolution first. OUT_OF_RANGE where a product is a NaN,
+ * infinite, or above 2147483646 in magnitude. */
+tishkolan_coord_answer tishkolan_physical_to_lattice(uint64_t x, uint64_t y, uint64_t z,
+                                                     uint8_t resolution);
+
+/* The coordinates as doubles. INVALID_PARITY. */
+tishkolan_point_answer tishkolan_to_physical(int32_t x, int32_t y, int32_t z);
+
+/* The Euclidean distance from a to b. INVALID_PARITY of a, then of b; COORD_OVERFLOW
+ * where a difference a - b leaves the 32-bit numbers. */
+tishkolan_bits_answer tishkolan_lattice_distance(int32_t ax, int32_t ay, int32_t az,
+                                                 int32_t bx, int32_t by, int32_t bz);
+
+/* The Manhattan distance. INVALID_PARITY of a, then of b; COORD_OVERFLOW where it
+ * passes 2147483647. */
+tishkolan_number_answer tishkolan_lattice_manhattan_distance(int32_t ax, int32_t ay, int32_t az,
+                                                             int32_t bx, int32_t by, int32_t bz);
+
+/* ---- cells: 16 bytes.
+ * A call that takes a cell of another length is BAD_LIST before anything else; one that
+ * answers with cells is NO_ROOM 3, last of all, where out is shorter than its answer.
+ * The cells of an answer are plain: exponent, flags and reserved are 0. */
+
+/* The cell of these fields, the exponent taken modulo 16, reserved 0. INVALID_PARITY. */
+tishkolan_refusal tishkolan_cell_new(uint8_t frame, uint8_t resolution,
+                                     int32_t x, int32_t y, int32_t z,
+                                     uint8_t exponent, uint8_t flags,
+                                     uint8_t *out, size_t out_length);
+
+/* The plain cell at a lattice point. INVALID_PARITY. */
+tishkolan_refusal tishkolan_cell_from_coords(uint8_t frame, uint8_t resolution,
+                                             int32_t x, int32_t y, int32_t z,
+                                             uint8_t *out, size_t out_length);
+
+/* The fields as they were packed; every 16 bytes have them. */
+tishkolan_fields_answer tishkolan_cell_fields(const uint8_t *cell, size_t cell_length);
+
+/* The coordinates, tested: INVALID_PARITY where they are mixed. */
+tishkolan_coord_answer tishkolan_cell_lattice_coord(const uint8_t *cell, size_t cell_length);
+
+/* -1, 0 or 1 as the first is below, equal to or above the second, over all 128 bits.
+ * BAD_LIST where either has another length than 16. */
+tishkolan_number_answer tishkolan_cell_compare(const uint8_t *first, size_t first_length,
+                                               const uint8_t *second, size_t second_length);
+
+/* 1 where exponent, flags and reserved are 0, else 0. */
+tishkolan_number_answer tishkolan_cell_is_plain(const uint8_t *cell, size_t cell_length);
+
+/* The 14 neighbours, 224 bytes, in the same frame and resolution. INVALID_PARITY;
+ * COORD_OVERFLOW as of tishkolan_lattice_neighbors; NO_ROOM 3. */
+tishkolan_refusal tishkolan_cell_neighbors(const uint8_t *cell, size_t cell_length,
+                                           uint8_t *out, size_t out_length);
+
+/* The 8 children, 128 bytes. NO_CHILDREN at resolution 255; INVALID_PARITY;
+ * COORD_OVERFLOW as of tishkolan_lattice_children; NO_ROOM 3. */
+tishkolan_refusal tishkolan_cell_children(const uint8_t *cell, size_t cell_length,
+                                          uint8_t *out, size_t out_length);
+
+/* The parent. NO_PARENT at resolution 0; INVALID_PARITY; NO_ROOM 3. */
+tishkolan_refusal tishkolan_cell_parent(const uint8_t *cell, size_t cell_length,
+                                        uint8_t *out, size_t out_length);
+
+/* The ancestor at a resolution: NO_PARENT where that is finer than the cell's; the cell
+ * itself, unchanged, at its own; else INVALID_PARITY, or the parent of the parent, as
+ * often as it takes; NO_ROOM 3. */
+tishkolan_refusal tishkolan_cell_ancestor(const uint8_t *cell, size_t cell_length,
+                                          uint8_t resolution,
+                                          uint8_t *out, size_t out_length);
+
+/* Asks for the cell between two; there never is one, so an answer (number 0) says "nothing".
+ * Nothing where the resolutions differ; INVALID_PARITY of the first, then of the second;
+ * nothing where the parities differ; COORD_OVERFLOW as of the Manhattan distance; nothing. */
+tishkolan_refusal tishkolan_cell_between(const uint8_t *first, size_t first_length,
+                                         const uint8_t *second, size_t second_length);
+
+/* The distances of two cells, by their coordinates alone: as of tishkolan_lattice_distance
+ * and tishkolan_lattice_manhattan_distance. */
+tishkolan_bits_answer tishkolan_cell_distance(const uint8_t *first, size_t first_length,
+                                              const uint8_t *second, size_t second_length);
+tishkolan_number_answer tishkolan_cell_manhattan_distance(const uint8_t *first, size_t first_length,
+                                                          const uint8_t *second, size_t second_length);
+
+#ifdef __cplusplus
+}
+#endif
+
+#endif
