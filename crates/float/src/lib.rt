@@ -1,0 +1,71 @@
+// Numbers of 64 bits by their bit patterns, after IEEE 754-2019. Each function takes every pattern, the NaNs among them, unless its contract says which it takes.
+ghost use mathlib.Core.Path.{_≡_};
+ghost use mathlib.Core.Bool.{true, false};
+ghost use lib.Ieee.{binary64, nanBits, ofBits, toBits, add, mul, lt};
+
+// The one pattern that is written for a NaN.
+const NAN: u64 = 0x7FF8_0000_0000_0000;
+
+// Whether a pattern is a NaN's: above that of the infinity, the sign aside.
+pub fn is_nan(bits: u64) -> bool
+    ensures { λ r. ⌜ r ≡ nanBits binary64 bits ⌝ }
+{
+    0x7FF0_0000_0000_0000 < bits % 0x8000_0000_0000_0000
+}
+
+// The number of a pattern that is no NaN's.
+pub fn value(bits: u64) -> f64
+    requires { ⌜ nanBits binary64 bits ≡ false ⌝ }
+    ensures { λ r. ⌜ r ≡ ofBits binary64 bits ⌝ }
+{
+    f64::from_bits(bits)
+}
+
+// The pattern of a number.
+pub fn bits(x: f64) -> u64
+    ensures { λ r. ⌜ r ≡ toBits binary64 x ⌝ }
+{
+    if x != x {
+        return NAN;
+    }
+    f64::to_bits(x)
+}
+
+// The sum of two patterns' numbers.
+pub fn plus(a: u64, b: u64) -> u64
+    ensures { λ r. ⌜ r ≡ toBits binary64 (add binary64 (ofBits binary64 a) (ofBits binary64 b)) ⌝ }
+{
+    if is_nan(a) {
+        return NAN;
+    }
+    if is_nan(b) {
+        return NAN;
+    }
+    bits(value(a) + value(b))
+}
+
+// The product of two patterns' numbers.
+pub fn times(a: u64, b: u64) -> u64
+    ensures { λ r. ⌜ r ≡ toBits binary64 (mul binary64 (ofBits binary64 a) (ofBits binary64 b)) ⌝ }
+{
+    if is_nan(a) {
+        return NAN;
+    }
+    if is_nan(b) {
+        return NAN;
+    }
+    bits(value(a) * value(b))
+}
+
+// Whether the first pattern's number is below the second's. No NaN is below anything, nor above it.
+pub fn less(a: u64, b: u64) -> bool
+    ensures { λ r. ⌜ r ≡ lt (ofBits binary64 a) (ofBits binary64 b) ⌝ }
+{
+    if is_nan(a) {
+        return false;
+    }
+    if is_nan(b) {
+        return false;
+    }
+    value(a) < value(b)
+}
