@@ -1,7 +1,8 @@
 // Numbers of 64 bits by their bit patterns, after IEEE 754-2019. Each function takes every pattern, the NaNs among them, unless its contract says which it takes.
 ghost use mathlib.Core.Path.{_≡_};
 ghost use mathlib.Core.Bool.{true, false};
-ghost use lib.Ieee.{binary64, nanBits, ofBits, toBits, add, mul, lt};
+ghost use lib.IntN.{pos};
+ghost use lib.Ieee.{binary64, fin, nanBits, ofBits, toBits, add, mul, lt};
 
 // The one pattern that is written for a NaN.
 const NAN: u64 = 0x7FF8_0000_0000_0000;
@@ -68,4 +69,11 @@ pub fn less(a: u64, b: u64) -> bool
         return false;
     }
     value(a) < value(b)
+}
+
+// Two to the power of a resolution: the exponent's field alone.
+pub fn power_of_two(resolution: u8) -> f64
+    ensures { λ r. ⌜ r ≡ fin false 1 (pos resolution) ⌝ }
+{
+    value((1023 + resolution as u64) * 0x0010_0000_0000_0000)
 }
