@@ -1,5 +1,5 @@
 -- What operations do with a NaN: a pattern that `nanBits` passes has the value `nan`, and an operation that takes `nan` to `nan` on either side answers with the one pattern that is written for it. Assumes nothing.
-use mathlib.Core.Path.{_≡_, refl, sym, ap, _∙_, subst}
+use mathlib.Core.Path.{_≡_, refl, sym, _∙_, subst}
 use mathlib.Core.Bool.{Bool, true, false, not}
 use Prim.Native.Nat.{ℕ}
 use lib.Dec.{T}

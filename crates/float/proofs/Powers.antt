@@ -1,12 +1,12 @@
 -- The pattern of a power of two is its exponent's field alone, which is 1023 for 1. Assumes nothing.
-use mathlib.Core.Path.{_≡_, refl, sym, ap, _∙_}
-use mathlib.Core.Bool.{Bool, true, false, cond}
-use Prim.Native.Nat.{ℕ, suc, _+_, _-_, _*_, _/_, _%_, _^_, _<_}
+use mathlib.Core.Path.{_≡_, ap, _∙_}
+use mathlib.Core.Bool.{false}
+use Prim.Native.Nat.{ℕ, suc, _+_, _*_, _/_, _%_, _<_}
 use native.Mathlib.Omega.{arith}
 use borrow.Author.Tests.{lt-leb, le-leb, ne-eqb}
-use lib.Dec.{leb, eqb}
-use lib.IntN.{ℤ, pos, negsuc}
-use lib.Ieee.{Float, nan, inf, fin, binary64, minus, odd, ofFields, ofBits, nanBits, isNan}
+use lib.Dec.{leb}
+use lib.IntN.{pos}
+use lib.Ieee.{fin, binary64, minus, ofFields, ofBits, nanBits, isNan}
 use lib.Ieee.Bits.{nanBits-is}
 
 -- 2 ^ 52 has no odd digit below its own, so what is left of it is 1 and its exponent is the field's

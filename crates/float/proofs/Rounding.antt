@@ -1,11 +1,11 @@
 -- Rounding of a number above zero, N / D as a fraction: its double is exact, and half of one more than the double's whole part is the nearest whole number. Assumes nothing.
 use mathlib.Core.Path.{_≡_, refl, sym, ap, _∙_, subst}
 use Prim.Native.Nat.{ℕ, zero, suc, _+_, _-_, _*_, _/_, _%_, _^_, _≤_, _<_, min}
-use native.Mathlib.Nat.{le-trans, le-of-eq, mul-one, one-mul, mul-assoc, mul-comm, mul-left-comm, mul-pos, zero-mul, div-div-eq-div-mul, add-div-right, div-lt-iff-lt-mul, lt-of-lt-of-le, le-of-lt, lt-of-not-le, not-le-of-lt, sub-add-cancel, suc-mul, zero-lt-suc}
+use native.Mathlib.Nat.{le-trans, le-of-eq, mul-one, mul-assoc, mul-comm, mul-left-comm, mul-pos, zero-mul, div-div-eq-div-mul, add-div-right, div-lt-iff-lt-mul, lt-of-lt-of-le, le-of-lt, lt-of-not-le, not-le-of-lt, sub-add-cancel, suc-mul, zero-lt-suc}
 use native.Mathlib.Omega.{arith}
-use mathlib.Core.Bool.{Bool, true, false, not, cond, _&&_, _||_, true≢false, false≢true}
+use mathlib.Core.Bool.{Bool, true, false, _&&_, true≢false, false≢true}
 use lib.IntN.{ℤ, pos, negsuc}
-use lib.Dec.{T, leb, ltb, eqb, leb→le, le→leb, ltb→lt, lt→ltb, eqb→eq, lit<, lit≤}
+use lib.Dec.{T, leb, ltb, eqb, leb→le, ltb→lt, lt→ltb, lit<, lit≤}
 use borrow.Author.Tests.{ltb-false}
 use lib.Pow.{pow-add, pow-pos, pow-mono, pow-lt, shl-lt}
 use lib.Ieee.{Float, nan, inf, fin, binary64, up, down, round, mul, lt, fits, toUnsigned, ofInt}

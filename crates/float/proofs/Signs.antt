@@ -1,10 +1,10 @@
 -- Rounding and the sign: a number above zero, one below and a zero. The negative of a rounded number is the negative rounded, and a zero stays. Assumes nothing.
 use mathlib.Core.Path.{_≡_, refl, sym, ap, _∙_, subst}
-use Prim.Native.Nat.{ℕ, zero, suc, _+_, _-_, _*_, _/_, _^_, _≤_, _<_, zero-le}
+use Prim.Native.Nat.{ℕ, zero, suc, _+_, _*_, _^_, _≤_, _<_, zero-le}
 use native.Mathlib.Nat.{mul-one, zero-mul, mul-pos, zero-lt-suc, le-of-eq, le-of-lt}
 use native.Mathlib.Omega.{arith}
-use mathlib.Core.Bool.{Bool, true, false, not, cond, _&&_, _||_, false≢true, true≢false}
-use lib.IntN.{ℤ, pos, negsuc, negℤ}
+use mathlib.Core.Bool.{Bool, true, false, not, cond, _&&_, _||_, false≢true}
+use lib.IntN.{ℤ, pos, negℤ}
 use lib.Dec.{T, ltb, eqb}
 use borrow.Author.Tests.{ltb-true, ltb-false, eqb-true, lt-ltb}
 use lib.Ieee.{Float, nan, inf, fin, Format, binary64, prec, emax, low, up, down, odd, units, round, neg, lt, le, fits}

@@ -5,7 +5,7 @@ use Prim.Native.Nat.{ℕ, zero, suc, _*_, _^_}
 use lib.IntN.{ℤ, pos, negℤ}
 use lib.Dec.{ltb}
 use borrow.Author.Tests.{eq-eqb}
-use lib.Ieee.{Float, nan, inf, fin, binary64, up, down, odd, units, round, eq, ofInt}
+use lib.Ieee.{Float, inf, fin, binary64, up, down, odd, units, round, eq, ofInt}
 use lib.Ieee.Fits.{round-is}
 use Rattle.float.specs.Round.{wholeOf, roundAway, wholeAway}
 

@@ -1,6 +1,6 @@
 -- Rounding to a whole number with halves away from zero, which is IEEE 754-2019's roundToIntegralTiesToAway (5.9) and Rust's `f64::round`. Definitions only. Assumes nothing.
 use Prim.Native.Nat.{ℕ, _+_, _*_, _/_}
-use mathlib.Core.Bool.{Bool, cond}
+use mathlib.Core.Bool.{cond}
 use lib.IntN.{ℤ, pos, negℤ}
 use lib.Ieee.{Float, nan, inf, fin, binary64, up, down, round}
 

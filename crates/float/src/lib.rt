@@ -4,6 +4,7 @@ ghost use mathlib.Core.Bool.{true, false};
 ghost use lib.IntN.{pos};
 ghost use lib.Ieee.{binary64, fin, nanBits, ofBits, toBits, add, mul, lt, le};
 ghost use Rattle.float.specs.Round.{wholeSize, roundAway, wholeAway};
+ghost use Rattle.float.specs.TotalOrder.{keyOf};
 
 // The one pattern that is written for a NaN.
 const NAN: u64 = 0x7FF8_0000_0000_0000;
@@ -124,4 +125,15 @@ pub fn nearest_whole(x: f64) -> i32
         return 0 - (whole_size(-x) as i32);
     }
     0
+}
+
+// A key of a pattern. Keys compare as numbers the way IEEE 754's totalOrder compares the patterns, and no two patterns share one.
+pub fn total_order_key(bits: u64) -> u64
+    ensures { λ r. ⌜ r ≡ keyOf bits ⌝ }
+{
+    if bits < 0x8000_0000_0000_0000 {
+        bits + 0x8000_0000_0000_0000
+    } else {
+        0xFFFF_FFFF_FFFF_FFFF - bits
+    }
 }

@@ -1,7 +1,6 @@
 -- `float::less` meets its contract: a NaN is below nothing and above nothing, and otherwise the test is the machine's. Assumes nothing.
-use mathlib.Core.Path.{_≡_, sym, _∙_, ap}
-use mathlib.Core.Bool.{false}
-use lib.Ieee.{Float, lt, ofBits, binary64}
+use mathlib.Core.Path.{sym, _∙_}
+use lib.Ieee.{ofBits, binary64}
 use borrow.Author.Needs.{needs}
 use Rattle.float.proofs.Nans.{nan-value, below-nothing, nothing-below}
 use Rattle.float.proofs.less.Statement.{statement}

@@ -1,15 +1,15 @@
 -- `float::nearest_whole` meets its contract: up to 2 ^ 30 the size fits an `i32`, with either sign. Assumes nothing.
 use mathlib.Core.Path.{_≡_, refl, sym, _∙_, ap, subst}
-use Prim.Native.Nat.{ℕ, zero, suc, _≤_, _<_}
+use Prim.Native.Nat.{ℕ, zero, suc, _≤_}
 use native.Mathlib.Nat.{zero-lt-suc}
 use native.Mathlib.Omega.{arith}
 use lib.IntN.{ℤ, pos, negsuc, negℤ, _-ℤ_}
-use lib.Ieee.{ofBits, neg}
+use lib.Ieee.{ofBits}
 use mir.Syntax.{w32}
 use mir.Val.{SFits, toZ, ofZ}
 use mir.Facts.{toZ-pos, toZ-ofZ}
 use borrow.Author.Tests.{lt-ltb}
-use Rattle.float.proofs.Signs.{Modest, modest-above, modest-below, integer-above, integer-below, integer-zero}
+use Rattle.float.proofs.Signs.{modest-above, modest-below, integer-above, integer-below, integer-zero}
 use Rattle.float.proofs.nearest_whole.Statement.{statement}
 use Rattle.float.proofs.nearest_whole.Tie as tie
 

@@ -1,6 +1,6 @@
 -- `float::round_above_zero` meets its contract: below 2 ^ 52 by `whole_size`, and from there on a number is whole already. Assumes nothing.
-use mathlib.Core.Path.{sym, _∙_, ap, subst}
-use Prim.Native.Nat.{ℕ, _≤_}
+use mathlib.Core.Path.{_∙_, ap}
+use Prim.Native.Nat.{ℕ}
 use native.Mathlib.Omega.{arith}
 use lib.Dec.{le→leb}
 use lib.IntN.{pos}
