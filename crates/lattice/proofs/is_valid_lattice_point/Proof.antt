@@ -1,6 +1,6 @@
 -- The two tests of the code are the two of the definition.
 use borrow.Author.Needs.{needs}
-use mathlib.Core.Path.{_≡_, refl, sym, _∙_, ap}
+use mathlib.Core.Path.{_≡_, sym, _∙_, ap}
 use mathlib.Core.Bool.{Bool, _&&_, Bool·beq}
 use Rattle.refusal.specs.declared.Coord.{Coord}
 use Rattle.lattice.specs.Lattice.{isOdd, isLatticePoint}
