@@ -10,9 +10,7 @@ use Rattle.lattice.specs.declared.ParityAnswer.the-variants as parity
 use Rattle.lattice.specs.declared.CoordAnswer.the-variants.{At}
 use Rattle.lattice.specs.declared.NumberAnswer.the-variants as number
 use Rattle.lattice.specs.Lattice.{at, isLatticePoint, parityOf, hasNeighborRoom, around, neighborSteps, neighborsOf, hasChildRoom, below, childSteps, childrenOf, parentOf, manhattan, manhattanOf}
-
-abbrev zero3 : Coord
-zero3 = at (pos 0) (pos 0) (pos 0)
+use Rattle.lattice.proofs.Room.{origin}
 
 -- (0, 1, 0) is mixed
 pub mixed : parityOf (at (pos 0) (pos 1) (pos 0)) ≡ parity.Refused (InvalidParity (at (pos 0) (pos 1) (pos 0)))
@@ -48,7 +46,7 @@ pub child-past : map below-of (at (negsuc 1073741824) (pos 1) (pos 1) ∷ at (po
 unfolding childrenOf parityOf isLatticePoint hasChildRoom below childSteps
 child-past = refl
 
--- Manhattan: 2147483647 is the last that is answered
-pub far : map (manhattanOf zero3) (at (pos 2147483645) (pos 1) (pos 1) ∷ at (pos 2147483646) (negsuc 1) (pos 0) ∷ at (negsuc 2147483647) (pos 0) (pos 0) ∷ []) ≡ number.Is (pos 2147483647) ∷ number.Refused CoordOverflow ∷ number.Refused CoordOverflow ∷ []
+-- Manhattan distances from (0, 0, 0): 2147483647 is the last that is answered
+pub far : map (manhattanOf origin) (at (pos 2147483645) (pos 1) (pos 1) ∷ at (pos 2147483646) (negsuc 1) (pos 0) ∷ at (negsuc 2147483647) (pos 0) (pos 0) ∷ []) ≡ number.Is (pos 2147483647) ∷ number.Refused CoordOverflow ∷ number.Refused CoordOverflow ∷ []
 unfolding manhattanOf parityOf isLatticePoint manhattan
 far = refl
