@@ -1,2 +1,3 @@
 pub mod Lattice
 pub mod Laws
+pub mod Signs
