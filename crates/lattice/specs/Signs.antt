@@ -44,6 +44,10 @@ sum-parity (negsuc a) (negsuc b) = omega arith
 abbrev pub either : Bool → Bool → Bool
 either a b = not (Bool·beq a b)
 
+pub either-false : (a : Bool) → a ≡ either a false
+either-false true = refl
+either-false false = refl
+
 -- changing both or neither changes nothing on whether they agree
 pub agree-turned : (t a b : Bool) → Bool·beq (either t a) (either t b) ≡ Bool·beq a b
 agree-turned true true true = refl
