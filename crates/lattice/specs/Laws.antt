@@ -2,11 +2,13 @@
 use mathlib.Core.Path.{_≡_, refl, sym, ap, ap₂, subst, _∙_}
 use mathlib.Core.Bool.{Bool, true, false, not, cond, _&&_, Bool·beq, false≢true}
 use mathlib.Core.List.{List, List·Memᴰ, Memᴰ·cast, Memᴰ·map, Memᴰ·of-map}
-use Prim.Native.Nat.{ℕ}
+use Prim.Native.Nat.{ℕ, _+_, _^_, _<_}
 use native.Mathlib.Omega.{arith}
-use lib.Dec.{T}
+use lib.Dec.{T, leb}
+use lib.Signed.{mag}
+use borrow.Author.Tests.{leb-true}
 use lib.ListN.{getD}
-use lib.IntN.{ℤ, pos, negsuc, negℤ, _+ℤ_, +ℤ-idr, +ℤ-negℤ-cancel, -ℤ-+ℤ-cancel}
+use lib.IntN.{ℤ, pos, negsuc, negℤ, natAbs, _+ℤ_, +ℤ-idr, +ℤ-negℤ-cancel, -ℤ-+ℤ-cancel}
 use mir.Syntax.{w32}
 use mir.Val.{SFits}
 use Rattle.refusal.specs.declared.Coord.{Coord}
@@ -18,8 +20,8 @@ use Rattle.lattice.specs.declared.ParityAnswer.{ParityAnswer}
 use Rattle.lattice.specs.declared.ParityAnswer.the-variants as parity
 use Rattle.lattice.specs.declared.CoordAnswer.{CoordAnswer}
 use Rattle.lattice.specs.declared.CoordAnswer.the-variants as coord
-use Rattle.lattice.specs.Lattice.{at, isOdd, isLatticePoint, parityOf, moved, around, neighborSteps, doubled, below, childSteps, half, lowered, raised, alone, evenParent, oddParent, halves, parentBy, parentOf}
-use Rattle.lattice.specs.Signs.{both, either, either-false, agree-turned, odd-sum, odd-double, half-double}
+use Rattle.lattice.specs.Lattice.{at, isOdd, isLatticePoint, parityOf, moved, around, neighborSteps, within, hasNeighborRoom, hasChildRoom, doubled, below, childSteps, half, lowered, raised, alone, evenParent, oddParent, halves, parentBy, parentOf}
+use Rattle.lattice.specs.Signs.{both, three, mag-add, rise, fall, within-mag, double-mag, mag-half, either, either-false, agree-turned, odd-sum, odd-double, half-double}
 use Rattle.lattice.specs.Tables.{Each, at-member, at-image, by-test, has, placed}
 
 -- each coordinate is a 32-bit number
@@ -321,3 +323,87 @@ neighbor-symmetric c d m =
     let r = Memᴰ·of-map (moved c) neighborSteps m in
     let b = at-member (λ (s : Coord). List·Memᴰ (back s) neighborSteps) (r .1) ways-back in
     Memᴰ·cast (there-and-back c (r .0) ∙ ap (λ (q : Coord). moved q (back (r .0))) (r .2)) (Memᴰ·map (moved d) b)
+
+-- ---- room: what is made of a point with room fits 32 bits
+
+step-fits : (z s : ℤ) → within (negsuc 2147483645) (pos 2147483645) z ≡ true → leb (natAbs s) 2 ≡ true → SFits w32 (z +ℤ s)
+step-fits z s e f = record { sfits = omega (arith, mag-add z s, within-mag 2147483645 z e, leb-true (natAbs s) 2 f) }
+
+abbrev short : Coord → Bool
+short s = leb (natAbs (s .x)) 2 && (leb (natAbs (s .y)) 2 && leb (natAbs (s .z)) 2)
+
+-- each neighbour of a point with neighbour room fits
+pub room-fits : (c d : Coord) → hasNeighborRoom c ≡ true → List·Memᴰ d (around c) → Fitting d
+unfolding around hasNeighborRoom
+room-fits c d e m =
+    let r = three (within (negsuc 2147483645) (pos 2147483645) (c .x)) (within (negsuc 2147483645) (pos 2147483645) (c .y)) (within (negsuc 2147483645) (pos 2147483645) (c .z)) e in
+    by-test (moved c) Fitting short neighborSteps refl
+    (λ (s : Coord) (f : short s ≡ true).
+    let g = three (leb (natAbs (s .x)) 2) (leb (natAbs (s .y)) 2) (leb (natAbs (s .z)) 2) f in
+    record { in-x = step-fits (c .x) (s .x) (r .0) (g .0); in-y = step-fits (c .y) (s .y) (r .1) (g .1); in-z = step-fits (c .z) (s .z) (r .2) (g .2) })
+    m
+
+abbrev gentle : ℕ → ℤ → Bool
+gentle down s = leb (rise s) 2 && leb (fall s) down
+
+child-fits : (low down : ℕ) (z s : ℤ) → within (negsuc low) (pos 1073741822) z ≡ true → gentle down s ≡ true → low + low + 1 + down < 2 ^ 31 → SFits w32 (z +ℤ z +ℤ s)
+child-fits low down z s e f l =
+    let g = both (leb (rise s) 2) (leb (fall s) down) f in
+    record { sfits = double-mag low 1073741822 2 down (2 ^ 31) z s e (leb-true (rise s) 2 (g .0)) (leb-true (fall s) down (g .1)) (omega arith) l (omega arith) (omega arith) }
+
+abbrev childlike : Coord → Bool
+childlike s = gentle 0 (s .x) && (gentle 1 (s .y) && gentle 1 (s .z))
+
+-- each child of a point with child room fits
+pub child-room-fits : (c d : Coord) → hasChildRoom c ≡ true → List·Memᴰ d (below c) → Fitting d
+unfolding below hasChildRoom
+child-room-fits c d e m =
+    let r = three (within (negsuc 1073741823) (pos 1073741822) (c .x)) (within (negsuc 1073741822) (pos 1073741822) (c .y)) (within (negsuc 1073741822) (pos 1073741822) (c .z)) e in
+    by-test (moved (doubled c)) Fitting childlike childSteps refl
+    (λ (s : Coord) (f : childlike s ≡ true).
+    let g = three (gentle 0 (s .x)) (gentle 1 (s .y)) (gentle 1 (s .z)) f in
+    record {
+      in-x = child-fits 1073741823 0 (c .x) (s .x) (r .0) (g .0) (omega arith);
+      in-y = child-fits 1073741822 1 (c .y) (s .y) (r .1) (g .1) (omega arith);
+      in-z = child-fits 1073741822 1 (c .z) (s .z) (r .2) (g .2) (omega arith);
+    })
+    m
+
+half-fits : (z : ℤ) → SFits w32 z → mag (half z) + 1 < 2 ^ 31
+half-fits z f = omega (arith, mag-half z)
+
+lowered-fits : (t : Bool) (z : ℤ) → mag z + 1 < 2 ^ 31 → SFits w32 (lowered t z)
+lowered-fits true z h = record { sfits = omega (arith, mag-add z (negsuc 0)) }
+lowered-fits false z h = record { sfits = omega arith }
+
+raised-fits : (t : Bool) (z : ℤ) → mag z + 1 < 2 ^ 31 → SFits w32 (raised t z)
+raised-fits true z h = record { sfits = omega (arith, mag-add z (pos 1)) }
+raised-fits false z h = record { sfits = omega arith }
+
+even-fits : (a b d : Bool) (c : Coord) → Fitting c → Fitting (even-from a b d (halves c))
+even-fits a b d c f =
+    record {
+      in-x = lowered-fits (alone a b d) (half (c .x)) (half-fits (c .x) (f .in-x));
+      in-y = lowered-fits (alone b a d) (half (c .y)) (half-fits (c .y) (f .in-y));
+      in-z = lowered-fits (alone d a b) (half (c .z)) (half-fits (c .z) (f .in-z));
+    }
+
+odd-fits : (a b d : Bool) (c : Coord) → Fitting c → Fitting (odd-from a b d (halves c))
+odd-fits a b d c f =
+    record {
+      in-x = raised-fits false (half (c .x)) (half-fits (c .x) (f .in-x));
+      in-y = raised-fits (not (Bool·beq a b)) (half (c .y)) (half-fits (c .y) (f .in-y));
+      in-z = raised-fits (not (Bool·beq a d)) (half (c .z)) (half-fits (c .z) (f .in-z));
+    }
+
+parent-fits-by : (a : ParityAnswer) (c p : Coord) → Fitting c → parentBy a c ≡ coord.At p → Fitting p
+parent-fits-by (parity.Refused r) c p f e = absurd (refused-at r p e)
+parent-fits-by (parity.Is Even) c p f e =
+    subst Fitting (at-path (evenParent (halves c)) p e) (even-fits (isOdd (half (c .x))) (isOdd (half (c .y))) (isOdd (half (c .z))) c f)
+parent-fits-by (parity.Is Odd) c p f e =
+    subst Fitting (at-path (oddParent (halves c)) p e) (odd-fits (isOdd (half (c .x))) (isOdd (half (c .y))) (isOdd (half (c .z))) c f)
+
+-- the parent of a point that fits does
+pub parent-fits : (c p : Coord) → Fitting c → parentOf c ≡ coord.At p → Fitting p
+unfolding parentOf
+parent-fits c p f e = parent-fits-by (parityOf c) c p f e

@@ -4,15 +4,18 @@ use mathlib.Core.Bool.{Bool, true, false, not, cond, _&&_, Bool·beq, false≢tr
 use Prim.Native.Nat.{ℕ, zero, suc, _+_, _-_, _/_, _%_, _≤_, _<_}
 use native.Mathlib.Nat.{mod-lt}
 use native.Mathlib.Omega.{arith}
-use lib.Dec.{eqb, ltb}
+use lib.Dec.{eqb, leb, ltb}
 use lib.IntN.{ℤ, pos, negsuc, natAbs, subℕ, _+ℤ_}
-use lib.Signed.{shrZ}
-use borrow.Author.Tests.{ltb-true, ltb-false, lt-ltb, le-ltb}
-use Rattle.lattice.specs.Lattice.{isOdd, half}
+use lib.Signed.{mag, shrZ}
+use borrow.Author.Tests.{ltb-true, ltb-false, leb-true, lt-ltb, le-ltb}
+use Rattle.lattice.specs.Lattice.{isOdd, within, half}
 
 pub both : (a b : Bool) → (a && b) ≡ true → (a ≡ true) × (b ≡ true)
 both true b e = (refl, e)
 both false b e = absurd (false≢true e)
+
+pub three : (a b d : Bool) → (a && (b && d)) ≡ true → (a ≡ true) × (b ≡ true) × (d ≡ true)
+three a b d e = let h = both a (b && d) e in let g = both b d (h .1) in (h .0, g .0, g .1)
 
 -- ---- a difference of two naturals, by its sign
 
@@ -94,3 +97,41 @@ half-double (negsuc n) (pos m) =
     (λ h. sub-below (m / 2) (suc n) ((suc (suc (n + n)) - suc m) / 2) (omega arith) (omega arith))
     (λ h. sub-above (m / 2) (suc n) ((m - suc (suc (n + n))) / 2) (omega arith) (omega arith))
 half-double (negsuc n) (negsuc m) = ap negsuc (omega arith)
+
+-- ---- ranges
+
+-- a sum is no further from zero than its parts together
+pub mag-add : (a b : ℤ) → mag (a +ℤ b) ≤ mag a + natAbs b
+mag-add (pos a) (pos b) = omega arith
+mag-add (pos a) (negsuc b) = sub-cases a (suc b) (λ (z : ℤ). mag z ≤ a + suc b) (λ h. omega arith) (λ h. omega arith)
+mag-add (negsuc a) (pos b) = sub-cases b (suc a) (λ (z : ℤ). mag z ≤ a + b) (λ h. omega arith) (λ h. omega arith)
+mag-add (negsuc a) (negsuc b) = omega arith
+
+-- how far a step goes up, and how far down
+abbrev pub rise : ℤ → ℕ
+rise (pos n) = n
+rise (negsuc n) = 0
+
+abbrev pub fall : ℤ → ℕ
+fall (pos n) = 0
+fall (negsuc n) = suc n
+
+-- no further from zero than the range
+pub within-mag : (bound : ℕ) (z : ℤ) → within (negsuc bound) (pos bound) z ≡ true → mag z ≤ bound
+within-mag bound (pos n) e = leb-true n bound e
+within-mag bound (negsuc n) e = leb-true n bound (both (leb n bound) true e .0)
+
+-- a double and a step fit a bound
+pub double-mag : (low high up down bound : ℕ) (z s : ℤ) → within (negsuc low) (pos high) z ≡ true → rise s ≤ up → fall s ≤ down → high + high + up < bound → low + low + 1 + down < bound → down < bound → up < bound → mag (z +ℤ z +ℤ s) < bound
+double-mag low high up down bound (pos n) (pos m) e r f h l k u = omega (arith, leb-true n high e)
+double-mag low high up down bound (pos n) (negsuc m) e r f h l k u =
+    let g = leb-true n high e in
+    sub-cases (n + n) (suc m) (λ (z : ℤ). mag z < bound) (λ side. omega arith) (λ side. omega arith)
+double-mag low high up down bound (negsuc n) (pos m) e r f h l k u =
+    let g = leb-true n low (both (leb n low) true e .0) in
+    sub-cases m (suc (suc (n + n))) (λ (z : ℤ). mag z < bound) (λ side. omega arith) (λ side. omega arith)
+double-mag low high up down bound (negsuc n) (negsuc m) e r f h l k u = omega (arith, leb-true n low (both (leb n low) true e .0))
+
+pub mag-half : (z : ℤ) → mag (half z) ≡ mag z / 2
+mag-half (pos n) = refl
+mag-half (negsuc n) = refl
