@@ -1,25 +1,37 @@
 -- What follows from the definitions of the packed cell alone: packing and unpacking undo each other. Assumes nothing.
 use mathlib.Core.Path.{_≡_, refl, sym, ap, ap₂, subst, _∙_}
-use mathlib.Core.Bool.{true, _&&_}
+use mathlib.Core.Logic.{_↔_}
+use mathlib.Core.Bool.{Bool, true, false, cond, _&&_}
+use mathlib.Core.List.{List, List·Memᴰ, Memᴰ·cast, Memᴰ·map, Memᴰ·of-map}
 use Prim.Native.Nat.{ℕ, _+_, _*_, _/_, _%_, _^_, _<_}
 use native.Mathlib.Nat.{div-add-mod', div-div-eq-div-mul, mod-mod}
 use native.Mathlib.Omega.{arith}
 use lib.Dec.{eqb}
-use borrow.Author.Tests.{eqb-true}
+use borrow.Author.Tests.{eqb-true, eqb-false, ne-eqb}
 use mir.Syntax.{w32}
 use mir.Val.{Fits, SFits, toZ, ofZ}
 use mir.Facts.{fits-ofZ, toZ-ofZ, ofZ-toZ, sfits-toZ}
 use Rattle.refusal.specs.declared.Coord.{Coord}
 use Rattle.refusal.specs.declared.Cell.{Cell}
+use Rattle.refusal.specs.declared.Refusal.{Refusal}
+use Rattle.refusal.specs.declared.Refusal.the-variants.{NoParent, NoChildren, CoordOverflow}
+use Rattle.refusal.specs.declared.Outcome.{Outcome}
+use Rattle.refusal.specs.declared.Outcome.the-variants as outcome
+use Rattle.refusal.specs.Table.{rawOf}
 use Rattle.lattice.specs.declared.Parity.{Parity}
 use Rattle.lattice.specs.declared.ParityAnswer.{ParityAnswer}
 use Rattle.lattice.specs.declared.ParityAnswer.the-variants as parity
-use Rattle.lattice.specs.Lattice.{at, parityOf}
-use Rattle.lattice.specs.Laws.{Fitting}
+use Rattle.lattice.specs.declared.CoordAnswer.{CoordAnswer}
+use Rattle.lattice.specs.declared.CoordAnswer.the-variants as coord
+use Rattle.lattice.specs.Lattice as lattice
+use Rattle.lattice.specs.Lattice.{at, isLatticePoint, parityOf, around, below, hasNeighborRoom, hasChildRoom}
+use Rattle.lattice.specs.Laws as lattice-laws
+use Rattle.lattice.specs.Laws.{Fitting, parity-point, neighbor-symmetric, room-fits, child-room-fits}
 use Rattle.lattice.specs.Signs.{both}
 use Rattle.cell.specs.declared.CellAnswer.{CellAnswer}
 use Rattle.cell.specs.declared.CellAnswer.the-variants.{Is, Refused}
-use Rattle.cell.specs.Cell.{frameOf, resolutionOf, exponentOf, flagsOf, reservedOf, coordOf, packed, newBy, newOf, isPlain, plainAt, plainTwin}
+use Rattle.cell.specs.Cell.{frameOf, resolutionOf, exponentOf, flagsOf, reservedOf, coordOf, packed, newBy, newOf, isPlain, plainAt, plainTwin, sameCell, nearCells, childCells, noChildren, childrenIn, childrenBy, childrenOf, parentAt, parentOf}
+use Rattle.cell.specs.declared.Children.{Children}
 
 -- a cell as the code holds it: two words of 64 bits
 pub record Words (c : Cell) : Type 0 where
@@ -143,3 +155,95 @@ unfolding isPlain
 plain-is-plain frame resolution c hf hr fits =
     let k = fields-packed frame resolution c 0 0 hf hr (omega arith) fits in
     rw (k .exponent-back, k .flags-back, k .reserved-back)
+
+-- ---- children and their parent
+
+-- the parent of a cell, by its fields
+parent-by : (k : Cell) (frame resolution : ℕ) (d p : Coord) → frameOf k ≡ frame → resolutionOf k ≡ resolution + 1 → coordOf k ≡ d → lattice.parentOf d ≡ coord.At p → parentOf k ≡ Is (plainAt frame resolution p)
+unfolding parentOf
+parent-by k frame resolution d p f r e h =
+    ap (λ (t : Bool). cond t (Refused NoParent) (parentAt (lattice.parentOf (coordOf k)) k)) (ne-eqb (resolutionOf k) 0 (λ z. omega arith))
+    ∙ ap (λ (a : CoordAnswer). parentAt a k) (ap lattice.parentOf e ∙ h)
+    ∙ ap₂ (λ (f r : ℕ). Is (plainAt f r p)) f (omega arith)
+
+-- a cell that has children: it is not of the finest resolution, its place is a lattice point, and there is room
+pub record HasChildren (c : Cell) : Type 0 where
+  pub coarser : resolutionOf c < 255
+  pub point : isLatticePoint (coordOf c) ≡ true
+  pub room : hasChildRoom (coordOf c) ≡ true
+
+-- the parent of each child is the cell's plain twin
+pub child-parent : (c k : Cell) → HasChildren c → List·Memᴰ k (childCells c) → parentOf k ≡ Is (plainTwin c)
+unfolding childCells plainTwin
+child-parent c k h m =
+    let frame : frameOf c < 256 = omega arith in
+    let t = Memᴰ·of-map (plainAt (frameOf c) (resolutionOf c + 1)) (below (coordOf c)) m in
+    let b = fields-packed (frameOf c) (resolutionOf c + 1) (t .0) 0 0 frame (omega arith) (omega arith) (child-room-fits (coordOf c) (t .0) (h .room) (t .1)) in
+    subst (λ (k : Cell). parentOf k ≡ Is (plainAt (frameOf c) (resolutionOf c) (coordOf c))) (t .2)
+    (parent-by (plainAt (frameOf c) (resolutionOf c + 1) (t .0)) (frameOf c) (resolutionOf c) (t .0) (coordOf c) (b .frame-back) (b .resolution-back) (b .coord-back) (lattice-laws.child-parent (coordOf c) (t .0) (h .point) (t .1)))
+
+-- and of a plain cell's children, the cell itself
+pub plain-child-parent : (c k : Cell) → Words c → isPlain c ≡ true → HasChildren c → List·Memᴰ k (childCells c) → parentOf k ≡ Is c
+plain-child-parent c k w e h m = child-parent c k h m ∙ ap Is (plain-twin c w e)
+
+-- a cell whose children are answered has children, and the answer holds them
+pub record Answers (c : Cell) (a : Children) : Type 0 where
+  pub has : HasChildren c
+  pub are : a .cells ≡ childCells c
+
+refused-answered : (r : Refusal) → outcome.Refused r ≡ outcome.Answered → ⊥
+refused-answered r e = let z : _≡_ {A = ℕ} 0 1 = cc in omega arith
+
+answered-in : (c : Cell) (t : Bool) → hasChildRoom (coordOf c) ≡ t → resolutionOf c < 255 → isLatticePoint (coordOf c) ≡ true → childrenIn t c .outcome ≡ outcome.Answered → Answers c (childrenIn t c)
+answered-in c true room r p e = record { has = record { coarser = r; point = p; room = room }; are = refl }
+answered-in c false room r p e = absurd (refused-answered CoordOverflow e)
+
+answered-by : (c : Cell) (a : ParityAnswer) → parityOf (coordOf c) ≡ a → resolutionOf c < 255 → childrenBy a c .outcome ≡ outcome.Answered → Answers c (childrenBy a c)
+answered-by c (parity.Refused x) q r e = absurd (refused-answered x e)
+answered-by c (parity.Is p) q r e = answered-in c (hasChildRoom (coordOf c)) refl r (parity-point (coordOf c) p q) e
+
+not-finest : (n : ℕ) → n < 256 → (n ≡ 255 → ⊥) → n < 255
+not-finest n h g = omega arith
+
+answered : (c : Cell) (t : Bool) → eqb (resolutionOf c) 255 ≡ t → (cond t (noChildren NoChildren) (childrenBy (parityOf (coordOf c)) c)) .outcome ≡ outcome.Answered → Answers c (cond t (noChildren NoChildren) (childrenBy (parityOf (coordOf c)) c))
+answered c true q e = absurd (refused-answered NoChildren e)
+answered c false q e = answered-by c (parityOf (coordOf c)) refl (not-finest (resolutionOf c) (omega arith) (eqb-false (resolutionOf c) 255 q)) e
+
+pub children-answered : (c : Cell) → childrenOf c .outcome ≡ outcome.Answered → Answers c (childrenOf c)
+unfolding childrenOf
+children-answered c e = answered c (eqb (resolutionOf c) 255) refl e
+
+-- ---- neighbours
+
+near-back : (c n : Cell) → Words c → isPlain c ≡ true → hasNeighborRoom (coordOf c) ≡ true → List·Memᴰ n (nearCells c) → List·Memᴰ c (nearCells n)
+unfolding nearCells plainTwin
+near-back c n w e room m =
+    let frame : frameOf c < 256 = omega arith in
+    let t = Memᴰ·of-map (plainAt (frameOf c) (resolutionOf c)) (around (coordOf c)) m in
+    let b = fields-packed (frameOf c) (resolutionOf c) (t .0) 0 0 frame (omega arith) (omega arith) (room-fits (coordOf c) (t .0) room (t .1)) in
+    let place : coordOf n ≡ t .0 = ap coordOf (sym (t .2)) ∙ b .coord-back in
+    let frames : frameOf c ≡ frameOf n = sym (b .frame-back) ∙ ap frameOf (t .2) in
+    let resolutions : resolutionOf c ≡ resolutionOf n = sym (b .resolution-back) ∙ ap resolutionOf (t .2) in
+    Memᴰ·cast (sym (plain-twin c w e) ∙ ap₂ (λ (f r : ℕ). plainAt f r (coordOf c)) frames resolutions)
+    (Memᴰ·map (plainAt (frameOf n) (resolutionOf n)) (neighbor-symmetric (coordOf c) (coordOf n) (Memᴰ·cast place (t .1))))
+
+-- of two plain cells with neighbour room, each is a neighbour of the other or neither is
+pub neighborhood : (c n : Cell) → Words c → Words n → isPlain c ≡ true → isPlain n ≡ true → hasNeighborRoom (coordOf c) ≡ true → hasNeighborRoom (coordOf n) ≡ true → List·Memᴰ n (nearCells c) ↔ List·Memᴰ c (nearCells n)
+neighborhood c n wc wn pc pn rc rn = (near-back c n wc pc rc, near-back n c wn pn rn)
+
+-- ---- the order
+
+high-of : (h l : ℕ) → l < 2 ^ 64 → (h * 2 ^ 64 + l) / 2 ^ 64 ≡ h
+high-of h l p = omega arith
+
+low-of : (h l : ℕ) → l < 2 ^ 64 → (h * 2 ^ 64 + l) % 2 ^ 64 ≡ l
+low-of h l p = omega arith
+
+-- cells with the same 128 bits are the same cell
+pub same-cell : (a b : Cell) → Words a → Words b → sameCell a b ≡ true → a ≡ b
+unfolding rawOf
+same-cell a b v w e =
+    let r = eqb-true (rawOf a) (rawOf b) e in
+    let high : a .high ≡ b .high = sym (high-of (a .high) (a .low) (v .low-word)) ∙ ap (λ (n : ℕ). n / 2 ^ 64) r ∙ high-of (b .high) (b .low) (w .low-word) in
+    let low : a .low ≡ b .low = sym (low-of (a .high) (a .low) (v .low-word)) ∙ ap (λ (n : ℕ). n % 2 ^ 64) r ∙ low-of (b .high) (b .low) (w .low-word) in
+    λ i. record { high = high i; low = low i }
