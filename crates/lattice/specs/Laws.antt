@@ -2,11 +2,11 @@
 use mathlib.Core.Path.{_≡_, refl, sym, ap, ap₂, subst, _∙_}
 use mathlib.Core.Bool.{Bool, true, false, not, cond, _&&_, Bool·beq, false≢true}
 use mathlib.Core.List.{List, List·Memᴰ, Memᴰ·cast, Memᴰ·map, Memᴰ·of-map}
-use Prim.Native.Nat.{ℕ, _+_, _^_, _<_}
+use Prim.Native.Nat.{ℕ, zero, suc, _+_, _/_, _%_, _^_, _<_}
 use native.Mathlib.Omega.{arith}
-use lib.Dec.{T, leb}
+use lib.Dec.{T, eqb, leb}
 use lib.Signed.{mag}
-use borrow.Author.Tests.{leb-true}
+use borrow.Author.Tests.{leb-true, eqb-false}
 use lib.ListN.{getD}
 use lib.IntN.{ℤ, pos, negsuc, negℤ, natAbs, _+ℤ_, +ℤ-idr, +ℤ-negℤ-cancel, -ℤ-+ℤ-cancel}
 use mir.Syntax.{w32}
@@ -20,8 +20,8 @@ use Rattle.lattice.specs.declared.ParityAnswer.{ParityAnswer}
 use Rattle.lattice.specs.declared.ParityAnswer.the-variants as parity
 use Rattle.lattice.specs.declared.CoordAnswer.{CoordAnswer}
 use Rattle.lattice.specs.declared.CoordAnswer.the-variants as coord
-use Rattle.lattice.specs.Lattice.{at, isOdd, isLatticePoint, parityOf, moved, around, neighborSteps, within, hasNeighborRoom, hasChildRoom, doubled, below, childSteps, half, lowered, raised, alone, evenParent, oddParent, halves, parentBy, parentOf}
-use Rattle.lattice.specs.Signs.{both, three, mag-add, rise, fall, within-mag, double-mag, mag-half, either, either-false, agree-turned, odd-sum, odd-double, half-double}
+use Rattle.lattice.specs.Lattice.{at, isOdd, isLatticePoint, parityOf, moved, around, neighborSteps, within, hasNeighborRoom, hasChildRoom, doubled, below, childSteps, half, lowered, raised, alone, evenParent, oddParent, halves, parentBy, parentOf, apart, manhattan}
+use Rattle.lattice.specs.Signs.{both, three, mag-add, rise, fall, within-mag, double-mag, mag-half, apart-even, halfway, odd-halfway, either, either-false, agree-turned, odd-sum, odd-double, half-double}
 use Rattle.lattice.specs.Tables.{Each, at-member, at-image, by-test, has, placed}
 
 -- each coordinate is a 32-bit number
@@ -407,3 +407,65 @@ parent-fits-by (parity.Is Odd) c p f e =
 pub parent-fits : (c p : Coord) → Fitting c → parentOf c ≡ coord.At p → Fitting p
 unfolding parentOf
 parent-fits c p f e = parent-fits-by (parityOf c) c p f e
+
+-- ---- between two points
+
+-- half the way from a to b on each axis, rounded towards a
+abbrev pub middle : Coord → Coord → Coord
+middle a b = at (halfway (a .x) (b .x)) (halfway (a .y) (b .y)) (halfway (a .z) (b .z))
+
+one-apart : (l m n : ℕ) → l + m + n ≡ 1 → one-parity (eqb (l % 2) 1) (eqb (m % 2) 1) (eqb (n % 2) 1) ≡ false
+one-apart zero zero zero e = absurd (omega arith)
+one-apart zero zero (suc zero) e = refl
+one-apart zero zero (suc (suc n)) e = absurd (omega arith)
+one-apart zero (suc zero) zero e = refl
+one-apart zero (suc zero) (suc n) e = absurd (omega arith)
+one-apart zero (suc (suc m)) n e = absurd (omega arith)
+one-apart (suc zero) zero zero e = refl
+one-apart (suc zero) zero (suc n) e = absurd (omega arith)
+one-apart (suc zero) (suc m) n e = absurd (omega arith)
+one-apart (suc (suc l)) m n e = absurd (omega arith)
+
+halves-sum : (l m n : ℕ) → (l % 2 ≡ 1 → ⊥) → (m % 2 ≡ 1 → ⊥) → (n % 2 ≡ 1 → ⊥) → l + m + n ≡ 2 → l / 2 + m / 2 + n / 2 ≡ 1
+halves-sum l m n hl hm hn e = omega arith
+
+one-turned : (t a b d : Bool) → one-parity (either t a) (either t b) (either t d) ≡ one-parity a b d
+one-turned t a b d = λ i. agree-turned t a b i && agree-turned t b d i
+
+odds-between : (a b : Coord) (t : Bool) → Odds a t t t → Odds b t t t → manhattan a b ≡ 2 → isLatticePoint (middle a b) ≡ false
+unfolding manhattan
+odds-between a b t o q e =
+    let even-x = eqb-false _ _ (apart-even (a .x) (b .x) (o .odd-x ∙ sym (q .odd-x))) in
+    let even-y = eqb-false _ _ (apart-even (a .y) (b .y) (o .odd-y ∙ sym (q .odd-y))) in
+    let even-z = eqb-false _ _ (apart-even (a .z) (b .z) (o .odd-z ∙ sym (q .odd-z))) in
+    let l = apart (a .x) (b .x) / 2 in
+    let m = apart (a .y) (b .y) / 2 in
+    let n = apart (a .z) (b .z) / 2 in
+    let turned : Odds (middle a b) (either t (eqb (l % 2) 1)) (either t (eqb (m % 2) 1)) (either t (eqb (n % 2) 1)) =
+    record {
+      odd-x = odd-halfway (a .x) (b .x) ∙ ap (λ (u : Bool). either u (eqb (l % 2) 1)) (o .odd-x);
+      odd-y = odd-halfway (a .y) (b .y) ∙ ap (λ (u : Bool). either u (eqb (m % 2) 1)) (o .odd-y);
+      odd-z = odd-halfway (a .z) (b .z) ∙ ap (λ (u : Bool). either u (eqb (n % 2) 1)) (o .odd-z);
+    } in
+    point-by (middle a b) _ _ _ turned
+    ∙ one-turned t (eqb (l % 2) 1) (eqb (m % 2) 1) (eqb (n % 2) 1)
+    ∙ one-apart l m n (halves-sum (apart (a .x) (b .x)) (apart (a .y) (b .y)) (apart (a .z) (b .z)) even-x even-y even-z e)
+
+abbrev oddness : Parity → Bool
+oddness Even = false
+oddness Odd = true
+
+parity-read : (a : Bool) (p : Parity) → parity.Is (cond a Odd Even) ≡ parity.Is p → a ≡ oddness p
+parity-read true Even e = cc
+parity-read true Odd e = refl
+parity-read false Even e = refl
+parity-read false Odd e = cc
+
+parity-odds : (c : Coord) (p : Parity) → parityOf c ≡ parity.Is p → Odds c (oddness p) (oddness p) (oddness p)
+parity-odds c p e =
+    let point = parity-point c p e in
+    subst (λ (t : Bool). Odds c t t t) (parity-read (isOdd (c .x)) p (sym (point-parity c point) ∙ e)) (point-odds c point)
+
+-- between two points of one parity at Manhattan distance 2 lies no lattice point: the middle differs from both on one axis by one
+pub between-is-mixed : (a b : Coord) (p : Parity) → parityOf a ≡ parity.Is p → parityOf b ≡ parity.Is p → manhattan a b ≡ 2 → isLatticePoint (middle a b) ≡ false
+between-is-mixed a b p e f m = odds-between a b (oddness p) (parity-odds a p e) (parity-odds b p f) m

@@ -5,10 +5,10 @@ use Prim.Native.Nat.{ℕ, zero, suc, _+_, _-_, _/_, _%_, _≤_, _<_}
 use native.Mathlib.Nat.{mod-lt}
 use native.Mathlib.Omega.{arith}
 use lib.Dec.{eqb, leb, ltb}
-use lib.IntN.{ℤ, pos, negsuc, natAbs, subℕ, _+ℤ_}
-use lib.Signed.{mag, shrZ}
+use lib.IntN.{ℤ, pos, negsuc, negℤ, natAbs, subℕ, _+ℤ_, _-ℤ_, +ℤ-comm, negℤ-+ℤ, negℤ-negℤ}
+use lib.Signed.{mag, quotZ, shrZ}
 use borrow.Author.Tests.{ltb-true, ltb-false, leb-true, lt-ltb, le-ltb}
-use Rattle.lattice.specs.Lattice.{isOdd, within, half}
+use Rattle.lattice.specs.Lattice.{isOdd, within, half, apart}
 
 pub both : (a b : Bool) → (a && b) ≡ true → (a ≡ true) × (b ≡ true)
 both true b e = (refl, e)
@@ -50,6 +50,10 @@ either a b = not (Bool·beq a b)
 pub either-false : (a : Bool) → a ≡ either a false
 either-false true = refl
 either-false false = refl
+
+either-self : (a : Bool) → either a a ≡ false
+either-self true = refl
+either-self false = refl
 
 -- changing both or neither changes nothing on whether they agree
 pub agree-turned : (t a b : Bool) → Bool·beq (either t a) (either t b) ≡ Bool·beq a b
@@ -135,3 +139,33 @@ double-mag low high up down bound (negsuc n) (negsuc m) e r f h l k u = omega (a
 pub mag-half : (z : ℤ) → mag (half z) ≡ mag z / 2
 mag-half (pos n) = refl
 mag-half (negsuc n) = refl
+
+-- ---- distances and the way half there
+
+natAbs-neg : (z : ℤ) → natAbs (negℤ z) ≡ natAbs z
+natAbs-neg (pos zero) = refl
+natAbs-neg (pos (suc n)) = refl
+natAbs-neg (negsuc n) = refl
+
+turned-round : (p q : ℤ) → q -ℤ p ≡ negℤ (p -ℤ q)
+turned-round p q = sym (negℤ-+ℤ p (negℤ q) ∙ ap (λ (z : ℤ). negℤ p +ℤ z) (negℤ-negℤ q) ∙ +ℤ-comm (negℤ p) q)
+
+apart-comm : (p q : ℤ) → natAbs (q -ℤ p) ≡ apart p q
+apart-comm p q = ap natAbs (turned-round p q) ∙ natAbs-neg (p -ℤ q)
+
+abs-half : (d : ℤ) → natAbs (quotZ d (pos 2)) ≡ natAbs d / 2
+abs-half (pos n) = refl
+abs-half (negsuc n) = natAbs-neg (pos (suc n / 2))
+
+-- two numbers of one parity are an even way apart
+pub apart-even : (p q : ℤ) → isOdd p ≡ isOdd q → eqb (apart p q % 2) 1 ≡ false
+apart-even p q e = odd-sum p (negℤ q) ∙ ap₂ either e (ap (λ (n : ℕ). eqb (n % 2) 1) (natAbs-neg q)) ∙ either-self (isOdd q)
+
+-- half the way from p to q, rounded towards p
+abbrev pub halfway : ℤ → ℤ → ℤ
+halfway p q = p +ℤ quotZ (q -ℤ p) (pos 2)
+
+pub odd-halfway : (p q : ℤ) → isOdd (halfway p q) ≡ either (isOdd p) (eqb (apart p q / 2 % 2) 1)
+odd-halfway p q =
+    odd-sum p (quotZ (q -ℤ p) (pos 2))
+    ∙ ap (λ (n : ℕ). either (isOdd p) (eqb (n % 2) 1)) (abs-half (q -ℤ p) ∙ ap (λ (n : ℕ). n / 2) (apart-comm p q))
