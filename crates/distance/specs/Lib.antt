@@ -1,0 +1,4 @@
+pub mod Distance
+pub mod Whole
+pub mod Laws
+pub mod Steps
