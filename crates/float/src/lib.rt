@@ -2,7 +2,8 @@
 ghost use mathlib.Core.Path.{_≡_};
 ghost use mathlib.Core.Bool.{true, false};
 ghost use lib.IntN.{pos};
-ghost use lib.Ieee.{binary64, fin, nanBits, ofBits, toBits, add, mul, lt};
+ghost use lib.Ieee.{binary64, fin, nanBits, ofBits, toBits, add, mul, lt, le};
+ghost use Rattle.float.specs.Round.{wholeSize, roundAway, wholeAway};
 
 // The one pattern that is written for a NaN.
 const NAN: u64 = 0x7FF8_0000_0000_0000;
@@ -76,4 +77,51 @@ pub fn power_of_two(resolution: u8) -> f64
     ensures { λ r. ⌜ r ≡ fin false 1 (pos resolution) ⌝ }
 {
     value((1023 + resolution as u64) * 0x0010_0000_0000_0000)
+}
+
+// The whole number nearest to a number above zero and below 2^52, halves up: half of one more than the whole part of its double.
+fn whole_size(x: f64) -> u64
+    requires { ⌜ (lt (fin false 0 (pos 0)) x ≡ true) × (lt x (fin false 1 (pos 52)) ≡ true) ⌝ }
+    ensures { λ r. ⌜ r ≡ wholeSize x ⌝ }
+{
+    (std::num::truncating_f64_to_u64(x * 2.0) + 1) / 2
+}
+
+// A number above zero, or the infinity, rounded: from 2^52 on every number is whole.
+fn round_above_zero(x: f64) -> f64
+    requires { ⌜ lt (fin false 0 (pos 0)) x ≡ true ⌝ }
+    ensures { λ r. ⌜ r ≡ roundAway x ⌝ }
+{
+    if x < 4503599627370496.0 {
+        whole_size(x) as f64
+    } else {
+        x
+    }
+}
+
+// A float rounded to a whole number, halves away from zero. A zero keeps its sign.
+pub fn round_away(x: f64) -> f64
+    ensures { λ r. ⌜ r ≡ roundAway x ⌝ }
+{
+    if x > 0.0 {
+        return round_above_zero(x);
+    }
+    if x < 0.0 {
+        return -round_above_zero(-x);
+    }
+    x
+}
+
+// The whole number nearest to a number from -2^30 to 2^30, halves away from zero.
+pub fn nearest_whole(x: f64) -> i32
+    requires { ⌜ (le (fin true 1 (pos 30)) x ≡ true) × (le x (fin false 1 (pos 30)) ≡ true) ⌝ }
+    ensures { λ r. ⌜ r ≡ wholeAway x ⌝ }
+{
+    if x > 0.0 {
+        return whole_size(x) as i32;
+    }
+    if x < 0.0 {
+        return 0 - (whole_size(-x) as i32);
+    }
+    0
 }
