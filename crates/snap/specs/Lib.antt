@@ -1,0 +1,3 @@
+pub mod Snap
+pub mod Ranges
+pub mod Laws
