@@ -19,7 +19,7 @@ pub enum RootBits {
     Refused(Refusal),
 }
 
-// The first 9 digits of the root of n, more or less: a parabola near the root over the leading 16 digits. No proof rests on its three numbers.
+// The first 9 digits of the root of n, more or less: a parabola's value at the leading 16 digits. Of how near it is nothing is proved.
 fn first_guess(n: u64) -> u64
     requires { ⌜ 4611686018427387904 ≤ n ⌝ }
     ensures { λ r. ⌜ (132 ≤ r) × (r ≤ 671) ⌝ }
@@ -29,7 +29,7 @@ fn first_guess(n: u64) -> u64
     (16992 + x * slope / 65536) / 128
 }
 
-// A number near the root of n: two steps of Newton's method. Nothing is proved of how near.
+// A number near the root of n: two steps of Newton's method. Again nothing is proved of how near.
 fn guess(n: u64) -> u64
     requires { ⌜ 4611686018427387904 ≤ n ⌝ }
     ensures { λ r. ⌜ r ≤ 4294967295 ⌝ }
