@@ -1,4 +1,4 @@
--- `rootWhole n` is M / P exactly, for M = `signif n` and P = `unit n`, a power of two (`value`), M has 53 digits (`many`, `few`), and the root of n lies strictly
+-- `rootWhole n` is M / P exactly, for M = `signif n` and P = `unit n`, a power of two (`value`), M has 53 digits or is 2 ^ 53 (`many`, `few`), and the root of n lies strictly
 -- within half a unit of it: (2 M - 1)² < 4 n P² < (2 M + 1)² (`over`, `under`). For n from 1 to 2 ^ 64. Assumes nothing.
 use mathlib.Core.Path.{_≡_, refl, sym, ap, _∙_, subst}
 use mathlib.Core.Logic.{_⊎_, inl, inr}
