@@ -7,6 +7,8 @@ use lib.Dec.{eqb, leb}
 use lib.IntN.{ℤ, pos, negsuc, natAbs, _+ℤ_, _-ℤ_}
 use lib.Signed.{leZ, shrZ}
 use lib.ListN.{replicate}
+use mir.Syntax.{w32}
+use mir.Val.{SFits}
 use Rattle.refusal.specs.declared.Coord.{Coord}
 use Rattle.refusal.specs.declared.Refusal.{Refusal}
 use Rattle.refusal.specs.declared.Refusal.the-variants.{InvalidParity, CoordOverflow}
@@ -25,6 +27,12 @@ use Rattle.lattice.specs.declared.Children.{Children}
 
 abbrev pub at : ℤ → ℤ → ℤ → Coord
 at x y z = record { x = x; y = y; z = z }
+
+-- each coordinate fits 32 bits
+pub record Fit (c : Coord) : Type 0 where
+  pub in-x : SFits w32 (c .x)
+  pub in-y : SFits w32 (c .y)
+  pub in-z : SFits w32 (c .z)
 
 -- ---- parity
 
