@@ -1,1 +1,3 @@
+mod Answers
 mod Complement
+mod Words

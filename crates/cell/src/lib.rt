@@ -1,9 +1,12 @@
 // The packed cell: 128 bits that name a frame, a resolution and a place of the lattice, with an exponent and flags.
 ghost use mathlib.Core.Path.{_≡_};
-ghost use Rattle.cell.specs.Cell.{frameOf, resolutionOf, exponentOf, flagsOf, reservedOf, xOf, yOf, zOf, coordOf, packed};
+ghost use Rattle.lattice.specs.Lattice.{at};
+ghost use Rattle.cell.specs.Cell.{frameOf, resolutionOf, exponentOf, flagsOf, reservedOf, xOf, yOf, zOf, coordOf, packed, newOf, latticeCoordOf, isPlain, sameCell, lessCell, orderOf};
 
 mod twos;
 
+use lattice::CoordAnswer;
+use lattice::ParityAnswer;
 use refusal::Cell;
 use refusal::Coord;
 use refusal::Outcome;
@@ -53,7 +56,7 @@ pub fn resolution(c: Cell) -> u8
     (c.low / 256 % 256) as u8
 }
 
-// The scale of what the flags say.
+// The scale factor, 0 to 15.
 pub fn exponent(c: Cell) -> u8
     ensures { λ r. ⌜ r ≡ exponentOf c ⌝ }
 {
@@ -115,4 +118,88 @@ pub fn packed(frame: u8, resolution: u8, c: Coord, exponent: u8, flags: u8) -> C
         low: (((x * 16 * 256 + flags as u64) * 16 + kept) * 256 + resolution as u64) * 256
             + frame as u64,
     }
+}
+
+fn new_at(frame: u8, resolution: u8, c: Coord, exponent: u8, flags: u8) -> CellAnswer
+    ensures { λ r. ⌜ r ≡ newOf frame resolution c exponent flags ⌝ }
+{
+    let p = lattice::parity_of(c);
+    match p {
+        ParityAnswer::Is(_) => CellAnswer::Is(packed(frame, resolution, c, exponent, flags)),
+        ParityAnswer::Refused(r) => CellAnswer::Refused(r),
+    }
+}
+
+pub fn new(frame: u8, resolution: u8, x: i32, y: i32, z: i32, exponent: u8, flags: u8) -> CellAnswer
+    ensures { λ r. ⌜ r ≡ newOf frame resolution (at x y z) exponent flags ⌝ }
+{
+    new_at(frame, resolution, Coord { x, y, z }, exponent, flags)
+}
+
+pub fn from_coords(frame: u8, resolution: u8, x: i32, y: i32, z: i32) -> CellAnswer
+    ensures { λ r. ⌜ r ≡ newOf frame resolution (at x y z) 0 0 ⌝ }
+{
+    new(frame, resolution, x, y, z, 0, 0)
+}
+
+pub fn from_lattice_coord(frame: u8, resolution: u8, c: Coord) -> CellAnswer
+    ensures { λ r. ⌜ r ≡ newOf frame resolution c 0 0 ⌝ }
+{
+    new_at(frame, resolution, c, 0, 0)
+}
+
+// The place that a cell names, refused where it is no lattice point.
+pub fn lattice_coord(c: Cell) -> CoordAnswer
+    ensures { λ r. ⌜ r ≡ latticeCoordOf c ⌝ }
+{
+    let place = coord(c);
+    let p = lattice::parity_of(place);
+    match p {
+        ParityAnswer::Is(_) => CoordAnswer::At(place),
+        ParityAnswer::Refused(r) => CoordAnswer::Refused(r),
+    }
+}
+
+// Exponent, flags and reserved are zero.
+pub fn is_plain(c: Cell) -> bool
+    ensures { λ r. ⌜ r ≡ isPlain c ⌝ }
+{
+    if exponent(c) == 0 {
+        if flags(c) == 0 {
+            return reserved(c) == 0;
+        }
+    }
+    false
+}
+
+// Equal in all 128 bits.
+pub fn same(a: Cell, b: Cell) -> bool
+    ensures { λ r. ⌜ r ≡ sameCell a b ⌝ }
+{
+    if a.high == b.high {
+        return a.low == b.low;
+    }
+    false
+}
+
+// Below in the order of the 128 bits as one number.
+pub fn less(a: Cell, b: Cell) -> bool
+    ensures { λ r. ⌜ r ≡ lessCell a b ⌝ }
+{
+    if a.high == b.high {
+        return a.low < b.low;
+    }
+    a.high < b.high
+}
+
+pub fn compare(a: Cell, b: Cell) -> Order
+    ensures { λ r. ⌜ r ≡ orderOf a b ⌝ }
+{
+    if less(a, b) {
+        return Order::Below;
+    }
+    if same(a, b) {
+        return Order::Same;
+    }
+    Order::Above
 }
