@@ -1,15 +1,16 @@
--- Laws of signed numbers of 32 bits: their remainder by 2. Assumes nothing.
-use mathlib.Core.Path.{_≡_, refl}
-use mathlib.Core.Bool.{Bool, not}
-use Prim.Native.Nat.{ℕ, zero, suc, _/_, _%_, _≤_, _<_}
+-- Laws of signed numbers of 32 bits: the remainder by 2, and sums that fit. Assumes nothing.
+use mathlib.Core.Path.{_≡_, refl, sym, subst}
+use mathlib.Core.Bool.{Bool, true, false, not, cond, _&&_}
+use Prim.Native.Nat.{ℕ, zero, suc, _+_, _-_, _/_, _%_, _≤_, _<_}
 use native.Mathlib.Nat.{div-le-self, mod-lt}
 use native.Mathlib.Omega.{arith}
-use lib.Dec.{eqb}
-use lib.IntN.{ℤ, pos, negsuc, negℤ}
+use lib.Dec.{T, eqb, ltb, leb}
+use lib.IntN.{ℤ, pos, negsuc, negℤ, natAbs, _+ℤ_}
 use lib.Signed.{mag, quotZ, remZ}
 use mir.Syntax.{w32}
-use mir.Val.{ofZ}
-use Rattle.lattice.specs.Lattice.{isOdd}
+use mir.Val.{SFits, ofZ}
+use borrow.Author.Tests.{leb-true, le-leb}
+use Rattle.lattice.specs.Lattice.{isOdd, within}
 
 -- ---- the remainder by 2
 
@@ -35,3 +36,55 @@ odd-down (suc (suc r)) h = absurd (omega arith)
 pub odd-rem : (z : ℤ) → not (eqb (ofZ w32 (remZ z (pos 2))) 0) ≡ isOdd z
 odd-rem (pos a) = odd-up (a % 2) (mod-lt a (omega arith))
 odd-rem (negsuc a) = odd-down (suc a % 2) (mod-lt (suc a) (omega arith))
+
+-- ---- sums
+
+pub no-truth : {X : Type 0} → false ≡ true → X
+no-truth e = absurd (subst T (sym e) tt)
+
+pub both : (a b : Bool) → (a && b) ≡ true → (a ≡ true) × (b ≡ true)
+both true b e = (refl, e)
+both false b e = no-truth e
+
+pub and-left : (b : Bool) → (b && true) ≡ true → b ≡ true
+and-left b e = both b true e .0
+
+mag-cond : (b : Bool) {m n k : ℕ} → m ≤ k → n ≤ k → mag (cond b (negsuc m) (pos n)) ≤ k
+mag-cond true h g = h
+mag-cond false h g = g
+
+-- a sum is no further from zero than its parts together
+mag-add : (a b : ℤ) → mag (a +ℤ b) ≤ mag a + natAbs b
+mag-add (pos a) (pos b) = omega arith
+mag-add (pos a) (negsuc b) = mag-cond (ltb a (suc b)) (omega arith) (omega arith)
+mag-add (negsuc a) (pos b) = mag-cond (ltb b (suc a)) (omega arith) (omega arith)
+mag-add (negsuc a) (negsuc b) = omega arith
+
+-- room for a step of two either way
+pub near-fits : (z d : ℤ) → natAbs d ≤ 2 → within (negsuc 2147483645) (pos 2147483645) z ≡ true → SFits w32 (z +ℤ d)
+near-fits (pos a) d h e = record { sfits = omega (arith, mag-add (pos a) d, leb-true a 2147483645 e) }
+near-fits (negsuc a) d h e =
+    record { sfits = omega (arith, mag-add (negsuc a) d, leb-true a 2147483645 (and-left (leb a 2147483645) e)) }
+
+-- room for twice the number, and for a step up of at most two from there
+pub up-fits : (z : ℤ) (d : ℕ) → d ≤ 2 → within (negsuc 1073741823) (pos 1073741822) z ≡ true → SFits w32 (z +ℤ z +ℤ pos d)
+up-fits (pos a) d h e = record { sfits = omega (arith, leb-true a 1073741822 e) }
+up-fits (negsuc a) d h e =
+    let k = leb-true a 1073741823 (and-left (leb a 1073741823) e) in
+    let m : mag (negsuc a +ℤ negsuc a +ℤ pos d) ≤ 2147483647 = mag-cond (ltb d (suc (suc (a + a)))) (omega arith) (omega arith) in
+    record { sfits = omega arith }
+
+pub twice-fits : (z : ℤ) → within (negsuc 1073741823) (pos 1073741822) z ≡ true → SFits w32 (z +ℤ z)
+twice-fits (pos a) e = record { sfits = omega (arith, leb-true a 1073741822 e) }
+twice-fits (negsuc a) e = record { sfits = omega (arith, leb-true a 1073741823 (and-left (leb a 1073741823) e)) }
+
+-- one less at the lower end: room for a step down of one from twice the number
+pub down-fits : (z : ℤ) → within (negsuc 1073741822) (pos 1073741822) z ≡ true → SFits w32 (z +ℤ z +ℤ negsuc 0)
+down-fits (pos a) e = record { sfits = omega (arith, mag-add (pos (a + a)) (negsuc 0), leb-true a 1073741822 e) }
+down-fits (negsuc a) e = record { sfits = omega (arith, leb-true a 1073741822 (and-left (leb a 1073741822) e)) }
+
+-- the narrower range is in the wider
+pub wider : (z : ℤ) → within (negsuc 1073741822) (pos 1073741822) z ≡ true → within (negsuc 1073741823) (pos 1073741822) z ≡ true
+wider (pos a) e = e
+wider (negsuc a) e =
+    rw (le-leb a 1073741823 (omega (arith, leb-true a 1073741822 (and-left (leb a 1073741822) e))))

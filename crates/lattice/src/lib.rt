@@ -81,3 +81,109 @@ pub fn parity_of(c: Coord) -> ParityAnswer
     }
     ParityAnswer::Refused(Refusal::InvalidParity(c))
 }
+
+// From low to high, both ends counted.
+fn is_within(low: i32, high: i32, x: i32) -> bool
+    ensures { λ r. ⌜ r ≡ within low high x ⌝ }
+{
+    if low <= x {
+        return x <= high;
+    }
+    false
+}
+
+fn all_three(a: bool, b: bool, d: bool) -> bool
+    ensures { λ r. ⌜ r ≡ (a && (b && d)) ⌝ }
+{
+    if a {
+        if b {
+            return d;
+        }
+    }
+    false
+}
+
+// A step of two fits, whichever way.
+pub fn has_neighbor_room(c: Coord) -> bool
+    ensures { λ r. ⌜ r ≡ hasNeighborRoom c ⌝ }
+{
+    all_three(
+        is_within(-2147483646, 2147483645, c.x),
+        is_within(-2147483646, 2147483645, c.y),
+        is_within(-2147483646, 2147483645, c.z),
+    )
+}
+
+// Every child's coordinates fit.
+pub fn has_child_room(c: Coord) -> bool
+    ensures { λ r. ⌜ r ≡ hasChildRoom c ⌝ }
+{
+    all_three(
+        is_within(-1073741824, 1073741822, c.x),
+        is_within(-1073741823, 1073741822, c.y),
+        is_within(-1073741823, 1073741822, c.z),
+    )
+}
+
+fn moved(c: Coord, x: i32, y: i32, z: i32) -> Coord
+    requires { ⌜ Fit (moved c (at x y z)) ⌝ }
+    ensures { λ r. ⌜ r ≡ moved c (at x y z) ⌝ }
+{
+    Coord {
+        x: c.x + x,
+        y: c.y + y,
+        z: c.z + z,
+    }
+}
+
+fn doubled(c: Coord) -> Coord
+    requires { ⌜ Fit (doubled c) ⌝ }
+    ensures { λ r. ⌜ r ≡ doubled c ⌝ }
+{
+    Coord {
+        x: c.x + c.x,
+        y: c.y + c.y,
+        z: c.z + c.z,
+    }
+}
+
+// The 14 neighbours in the table's order.
+pub fn around(c: Coord) -> [Coord; 14]
+    requires { ⌜ hasNeighborRoom c ≡ true ⌝ }
+    ensures { λ r. ⌜ r ≡ around c ⌝ }
+{
+    [
+        moved(c, 1, 1, 1),
+        moved(c, 1, 1, -1),
+        moved(c, 1, -1, 1),
+        moved(c, 1, -1, -1),
+        moved(c, -1, 1, 1),
+        moved(c, -1, 1, -1),
+        moved(c, -1, -1, 1),
+        moved(c, -1, -1, -1),
+        moved(c, 2, 0, 0),
+        moved(c, -2, 0, 0),
+        moved(c, 0, 2, 0),
+        moved(c, 0, -2, 0),
+        moved(c, 0, 0, 2),
+        moved(c, 0, 0, -2),
+    ]
+}
+
+// The 8 children in the table's order.
+pub fn below(c: Coord) -> [Coord; 8]
+    requires { ⌜ hasChildRoom c ≡ true ⌝ }
+    ensures { λ r. ⌜ r ≡ below c ⌝ }
+{
+    let twice = doubled(c);
+    [
+        moved(twice, 0, 0, 0),
+        moved(twice, 2, 0, 0),
+        moved(twice, 0, 2, 0),
+        moved(twice, 0, 0, 2),
+        moved(twice, 1, 1, 1),
+        moved(twice, 1, 1, -1),
+        moved(twice, 1, -1, 1),
+        moved(twice, 1, -1, -1),
+    ]
+}
