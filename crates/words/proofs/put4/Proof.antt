@@ -1,0 +1,49 @@
+-- The four stores are one run of stores.
+use mathlib.Core.Path.{sym}
+use native.Mathlib.Omega.{arith}
+use lib.ListN.{length-set}
+use Rattle.words.proofs.Four.{sets-four}
+use borrow.Author.Needs.{needs}
+use Rattle.words.proofs.put4.Statement.{statement}
+use Rattle.words.proofs.put4.Tie as tie
+
+slice-write-s : tie.Need-slice-write-s
+slice-write-s c = search needs
+
+add-s : tie.Need-add-s
+add-s c = search needs
+
+slice-write-s-2 : tie.Need-slice-write-s-2
+slice-write-s-2 c = simp length-set (omega arith)
+
+add-s-2 : tie.Need-add-s-2
+add-s-2 c = search needs
+
+slice-write-s-3 : tie.Need-slice-write-s-3
+slice-write-s-3 c = simp length-set (omega arith)
+
+add-s-3 : tie.Need-add-s-3
+add-s-3 c = search needs
+
+slice-write-s-4 : tie.Need-slice-write-s-4
+slice-write-s-4 c = simp length-set (omega arith)
+
+same-length : tie.Need-same-length
+same-length c = search needs
+
+returns : tie.Need-returns
+returns c = sym (sets-four (c .args .s .now) (c .args .at) (c .args .a) (c .args .b) (c .args .c) (c .args .d))
+
+pub put4-spec : {M : Type 1} → statement M
+put4-spec =
+    tie.close
+    (tie.spec
+    slice-write-s
+    add-s
+    slice-write-s-2
+    add-s-2
+    slice-write-s-3
+    add-s-3
+    slice-write-s-4
+    same-length
+    returns)
