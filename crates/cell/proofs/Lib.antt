@@ -1,3 +1,4 @@
 mod Answers
 mod Complement
+mod Filled
 mod Words

@@ -1,7 +1,8 @@
 // The packed cell: 128 bits that name a frame, a resolution and a place of the lattice, with an exponent and flags.
 ghost use mathlib.Core.Path.{_≡_};
+ghost use mathlib.Core.List.{map};
 ghost use Rattle.lattice.specs.Lattice.{at};
-ghost use Rattle.cell.specs.Cell.{frameOf, resolutionOf, exponentOf, flagsOf, reservedOf, xOf, yOf, zOf, coordOf, packed, newOf, latticeCoordOf, isPlain, sameCell, lessCell, orderOf};
+ghost use Rattle.cell.specs.Cell.{frameOf, resolutionOf, exponentOf, flagsOf, reservedOf, xOf, yOf, zOf, coordOf, packed, newOf, latticeCoordOf, isPlain, sameCell, lessCell, orderOf, plainAt};
 
 mod twos;
 
@@ -202,4 +203,19 @@ pub fn compare(a: Cell, b: Cell) -> Order
         return Order::Same;
     }
     Order::Above
+}
+
+const ZERO: Cell = Cell { high: 0, low: 0 };
+
+// The plain cells at 14 places.
+fn plain14(frame: u8, resolution: u8, places: [Coord; 14]) -> [Cell; 14]
+    ensures { λ r. ⌜ r ≡ map (plainAt frame resolution) places ⌝ }
+{
+    let mut cells = [ZERO; 14];
+    let mut i = 0;
+    while i < 14 {
+        cells[i] = packed(frame, resolution, places[i], 0, 0);
+        i += 1;
+    }
+    cells
 }
