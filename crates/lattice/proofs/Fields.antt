@@ -1,7 +1,8 @@
 -- A place read field by field is the place: each coordinate fits 32 bits, so that its bits say it. Assumes nothing.
-use mathlib.Core.Path.{_≡_}
+use mathlib.Core.Path.{_≡_, _∙_}
+use lib.IntN.{ℤ}
 use mir.Syntax.{w32}
-use mir.Val.{ofZ, toZ}
+use mir.Val.{SFits, ofZ, toZ}
 use mir.Facts.{toZ-ofZ}
 use denote.Laws.{valss}
 use denote.Struct.Struct.{AreAll}
@@ -28,3 +29,7 @@ kept-same f = λ i. at (toZ-ofZ (f .in-x) i) (toZ-ofZ (f .in-y) i) (toZ-ofZ (f .
 
 pub read : (c : Coord) → Told c → kept c ≡ c
 read c told = kept-same (fit c told)
+
+-- a result that was put into a field
+pub put : {r v : ℤ} → SFits w32 r → r ≡ v → toZ w32 (ofZ w32 r) ≡ v
+put f e = toZ-ofZ f ∙ e

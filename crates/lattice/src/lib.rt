@@ -1,7 +1,11 @@
 // The body-centred cubic lattice on whole numbers: which points belong to it, their 14 neighbours, 8 children and parent, and the Manhattan distance.
 ghost use mathlib.Core.Path.{_≡_};
-ghost use mathlib.Core.Bool.{true, _&&_};
-ghost use Rattle.lattice.specs.Lattice.{isOdd, isLatticePoint, parityOf, oppositeOf, Fit, at, moved, doubled, within, hasNeighborRoom, around, hasChildRoom, below};
+ghost use mathlib.Core.Bool.{true, not, _&&_, Bool·beq};
+ghost use Prim.Native.Nat.{_<_, _^_};
+ghost use lib.IntN.{natAbs, _-ℤ_};
+ghost use mir.Syntax.{w32};
+ghost use mir.Val.{SFits};
+ghost use Rattle.lattice.specs.Lattice.{isOdd, isLatticePoint, parityOf, oppositeOf, Fit, at, moved, doubled, within, hasNeighborRoom, around, noNeighbors, neighborsOf, hasChildRoom, below, noChildren, childrenOf, half, halves, lowered, raised, alone, evenParent, oddParent, parentOf, apart, manhattan, manhattanOf};
 use refusal::Coord;
 use refusal::Outcome;
 use refusal::Refusal;
@@ -170,6 +174,38 @@ pub fn around(c: Coord) -> [Coord; 14]
     ]
 }
 
+const NOWHERE: Coord = Coord { x: 0, y: 0, z: 0 };
+
+fn no_neighbors(r: Refusal) -> Neighbors
+    ensures { λ n. ⌜ n ≡ noNeighbors r ⌝ }
+{
+    Neighbors {
+        outcome: Outcome::Refused(r),
+        coords: [NOWHERE; 14],
+    }
+}
+
+// Parity first, then room.
+pub fn get_neighbors(c: Coord) -> Neighbors
+    ensures { λ r. ⌜ r ≡ neighborsOf c ⌝ }
+{
+    let parity = parity_of(c);
+    match parity {
+        ParityAnswer::Refused(r) => no_neighbors(r),
+        ParityAnswer::Is(_) => {
+            if has_neighbor_room(c) {
+                let coords = around(c);
+                Neighbors {
+                    outcome: Outcome::Answered,
+                    coords,
+                }
+            } else {
+                no_neighbors(Refusal::CoordOverflow)
+            }
+        }
+    }
+}
+
 // The 8 children in the table's order.
 pub fn below(c: Coord) -> [Coord; 8]
     requires { ⌜ hasChildRoom c ≡ true ⌝ }
@@ -186,4 +222,34 @@ pub fn below(c: Coord) -> [Coord; 8]
         moved(twice, 1, -1, 1),
         moved(twice, 1, -1, -1),
     ]
+}
+
+fn no_children(r: Refusal) -> Children
+    ensures { λ n. ⌜ n ≡ noChildren r ⌝ }
+{
+    Children {
+        outcome: Outcome::Refused(r),
+        coords: [NOWHERE; 8],
+    }
+}
+
+// Parity first, then room.
+pub fn get_children(c: Coord) -> Children
+    ensures { λ r. ⌜ r ≡ childrenOf c ⌝ }
+{
+    let parity = parity_of(c);
+    match parity {
+        ParityAnswer::Refused(r) => no_children(r),
+        ParityAnswer::Is(_) => {
+            if has_child_room(c) {
+                let coords = below(c);
+                Children {
+                    outcome: Outcome::Answered,
+                    coords,
+                }
+            } else {
+                no_children(Refusal::CoordOverflow)
+            }
+        }
+    }
 }
