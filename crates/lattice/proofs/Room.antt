@@ -11,8 +11,8 @@ use mir.Syntax.{w32}
 use mir.Val.{SFits}
 use borrow.Author.Tests.{leb-true}
 use Rattle.refusal.specs.declared.Coord.{Coord}
-use Rattle.lattice.specs.Lattice.{at, moved, doubled, Fit, within, neighborSteps, hasNeighborRoom, childSteps, hasChildRoom}
-use Rattle.lattice.proofs.Signs.{no-truth, and-left, both, near-fits, up-fits, twice-fits, down-fits, wider}
+use Rattle.lattice.specs.Lattice.{at, moved, doubled, Fit, within, neighborSteps, hasNeighborRoom, childSteps, hasChildRoom, halves}
+use Rattle.lattice.proofs.Signs.{no-truth, and-left, both, near-fits, up-fits, twice-fits, down-fits, wider, half-near}
 
 -- ---- a table's rule, at each entry
 
@@ -110,3 +110,10 @@ lower c e k =
       in-y = either-fits (c .y) (d .y) (room .in-y) (step .in-y);
       in-z = either-fits (c .z) (d .z) (room .in-z) (step .in-z);
     }
+
+-- ---- parent
+
+pub halves-near : (c : Coord) → Fit c → hasNeighborRoom (halves c) ≡ true
+unfolding hasNeighborRoom
+halves-near c f =
+    rw (half-near (c .x) (f .in-x), half-near (c .y) (f .in-y), half-near (c .z) (f .in-z))

@@ -1,16 +1,16 @@
--- Laws of signed numbers of 32 bits: the remainder by 2, and sums that fit. Assumes nothing.
-use mathlib.Core.Path.{_≡_, refl, sym, subst}
+-- Laws of signed numbers of 32 bits: the remainder by 2, sums that fit, halves, and differences in 64 bits. Assumes nothing.
+use mathlib.Core.Path.{_≡_, refl, sym, subst, ap}
 use mathlib.Core.Bool.{Bool, true, false, not, cond, _&&_}
-use Prim.Native.Nat.{ℕ, zero, suc, _+_, _-_, _/_, _%_, _≤_, _<_}
+use Prim.Native.Nat.{ℕ, zero, suc, _+_, _-_, _/_, _%_, _^_, _≤_, _<_}
 use native.Mathlib.Nat.{div-le-self, mod-lt}
 use native.Mathlib.Omega.{arith}
 use lib.Dec.{T, eqb, ltb, leb}
-use lib.IntN.{ℤ, pos, negsuc, negℤ, natAbs, _+ℤ_}
-use lib.Signed.{mag, quotZ, remZ}
-use mir.Syntax.{w32}
+use lib.IntN.{ℤ, pos, negsuc, negℤ, natAbs, _+ℤ_, _-ℤ_}
+use lib.Signed.{mag, ltZ, quotZ, remZ, mag-shr}
+use mir.Syntax.{w32, w64}
 use mir.Val.{SFits, ofZ}
-use borrow.Author.Tests.{leb-true, le-leb}
-use Rattle.lattice.specs.Lattice.{isOdd, within}
+use borrow.Author.Tests.{leb-true, le-leb, ltb-true}
+use Rattle.lattice.specs.Lattice.{isOdd, within, half}
 
 -- ---- the remainder by 2
 
@@ -88,3 +88,43 @@ pub wider : (z : ℤ) → within (negsuc 1073741822) (pos 1073741822) z ≡ true
 wider (pos a) e = e
 wider (negsuc a) e =
     rw (le-leb a 1073741823 (omega (arith, leb-true a 1073741822 (and-left (leb a 1073741822) e))))
+
+-- ---- halves
+
+pub half-fits : (z : ℤ) → SFits w32 z → SFits w32 (half z)
+half-fits z f = record { sfits = omega (arith, mag-shr z 2) }
+
+-- a half leaves room for a step of two
+pub half-near : (z : ℤ) → SFits w32 z → within (negsuc 2147483645) (pos 2147483645) (half z) ≡ true
+half-near (pos a) f = le-leb (a / 2) 2147483645 (omega arith)
+half-near (negsuc a) f = rw (le-leb (a / 2) 2147483645 (omega arith))
+
+-- ---- differences
+
+pub wide-fits : {z : ℤ} → SFits w32 z → SFits w64 z
+wide-fits f = record { sfits = omega arith }
+
+abs-cond : (b : Bool) {m n k : ℕ} → suc m < k → n < k → natAbs (cond b (negsuc m) (pos n)) < k
+abs-cond true h g = h
+abs-cond false h g = g
+
+pub apart-fits : (a b : ℤ) → SFits w32 a → SFits w32 b → natAbs (a -ℤ b) < 2 ^ 32
+apart-fits (pos a) (pos zero) f g = omega arith
+apart-fits (pos a) (pos (suc b)) f g = abs-cond (ltb a (suc b)) (omega arith) (omega arith)
+apart-fits (pos a) (negsuc b) f g = omega arith
+apart-fits (negsuc a) (pos zero) f g = abs-cond (ltb zero (suc a)) (omega arith) (omega arith)
+apart-fits (negsuc a) (pos (suc b)) f g = omega arith
+apart-fits (negsuc a) (negsuc b) f g = abs-cond (ltb (suc b) (suc a)) (omega arith) (omega arith)
+
+pub abs-fits : (z : ℤ) → natAbs z < 2 ^ 32 → SFits w64 z
+abs-fits (pos a) h = record { sfits = omega arith }
+abs-fits (negsuc a) h = record { sfits = omega arith }
+
+-- the distance from zero, of a negative number and of any other
+pub abs-below : (z : ℤ) → ltZ z (pos 0) ≡ true → pos 0 -ℤ z ≡ pos (natAbs z)
+abs-below (pos a) e = absurd (omega (arith, ltb-true a 0 e))
+abs-below (negsuc a) e = ap pos (omega arith)
+
+pub abs-above : (z : ℤ) → ltZ z (pos 0) ≡ false → z ≡ pos (natAbs z)
+abs-above (pos a) e = refl
+abs-above (negsuc a) e = no-truth (sym e)

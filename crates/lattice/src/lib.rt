@@ -253,3 +253,87 @@ pub fn get_children(c: Coord) -> Children
         }
     }
 }
+
+// Rounded down, of negatives too.
+fn half(x: i32) -> i32
+    ensures { λ r. ⌜ r ≡ half x ⌝ }
+{
+    x >> 1
+}
+
+fn halves(c: Coord) -> Coord
+    ensures { λ r. ⌜ (r ≡ halves c) × (hasNeighborRoom r ≡ true) ⌝ }
+{
+    Coord {
+        x: half(c.x),
+        y: half(c.y),
+        z: half(c.z),
+    }
+}
+
+// One less where the parity of x stands alone against those of y and z.
+fn lowered_alone(x: i32, y: i32, z: i32) -> i32
+    requires { ⌜ SFits w32 (lowered true x) ⌝ }
+    ensures { λ r. ⌜ r ≡ lowered (alone (isOdd x) (isOdd y) (isOdd z)) x ⌝ }
+{
+    let a = is_odd(x);
+    let b = is_odd(y);
+    let d = is_odd(z);
+    if a == b {
+        return x;
+    }
+    if b == d {
+        return x - 1;
+    }
+    x
+}
+
+fn even_parent(q: Coord) -> Coord
+    requires { ⌜ hasNeighborRoom q ≡ true ⌝ }
+    ensures { λ r. ⌜ r ≡ evenParent q ⌝ }
+{
+    Coord {
+        x: lowered_alone(q.x, q.y, q.z),
+        y: lowered_alone(q.y, q.x, q.z),
+        z: lowered_alone(q.z, q.x, q.y),
+    }
+}
+
+// One more where the parity of y is not that of x.
+fn raised_to(x: i32, y: i32) -> i32
+    requires { ⌜ SFits w32 (raised true y) ⌝ }
+    ensures { λ r. ⌜ r ≡ raised (not (Bool·beq (isOdd x) (isOdd y))) y ⌝ }
+{
+    let a = is_odd(x);
+    let b = is_odd(y);
+    if a == b {
+        return y;
+    }
+    y + 1
+}
+
+fn odd_parent(q: Coord) -> Coord
+    requires { ⌜ hasNeighborRoom q ≡ true ⌝ }
+    ensures { λ r. ⌜ r ≡ oddParent q ⌝ }
+{
+    Coord {
+        x: q.x,
+        y: raised_to(q.x, q.y),
+        z: raised_to(q.x, q.z),
+    }
+}
+
+// The one point whose child this is.
+pub fn get_parent(c: Coord) -> CoordAnswer
+    ensures { λ r. ⌜ r ≡ parentOf c ⌝ }
+{
+    let parity = parity_of(c);
+    let q = halves(c);
+    match parity {
+        ParityAnswer::Refused(r) => CoordAnswer::Refused(r),
+        ParityAnswer::Is(p) => match p {
+            Parity::Even => CoordAnswer::At(even_parent(q)),
+            Parity::Odd => CoordAnswer::At(odd_parent(q)),
+        },
+    }
+}
