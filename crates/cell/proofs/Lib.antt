@@ -1,4 +1,5 @@
 mod Answers
+mod Climb
 mod Complement
 mod Filled
 mod Words

@@ -2,7 +2,7 @@
 ghost use mathlib.Core.Path.{_≡_};
 ghost use mathlib.Core.List.{map};
 ghost use Rattle.lattice.specs.Lattice.{at};
-ghost use Rattle.cell.specs.Cell.{frameOf, resolutionOf, exponentOf, flagsOf, reservedOf, xOf, yOf, zOf, coordOf, packed, newOf, latticeCoordOf, isPlain, sameCell, lessCell, orderOf, plainAt, noNeighbors, neighborsOf, noChildren, childrenOf};
+ghost use Rattle.cell.specs.Cell.{frameOf, resolutionOf, exponentOf, flagsOf, reservedOf, xOf, yOf, zOf, coordOf, packed, newOf, latticeCoordOf, isPlain, sameCell, lessCell, orderOf, plainAt, noNeighbors, neighborsOf, noChildren, childrenOf, parentOf, ancestorOf};
 
 mod twos;
 
@@ -296,5 +296,38 @@ pub fn get_children(c: Cell) -> Children
                 no_children(Refusal::CoordOverflow)
             }
         }
+    }
+}
+
+// The coarsest resolution has none; then parity.
+pub fn parent(c: Cell) -> CellAnswer
+    ensures { λ r. ⌜ r ≡ parentOf c ⌝ }
+{
+    let level = resolution(c);
+    if level == 0 {
+        return CellAnswer::Refused(Refusal::NoParent);
+    }
+    let place = lattice::get_parent(coord(c));
+    match place {
+        CoordAnswer::Refused(r) => CellAnswer::Refused(r),
+        CoordAnswer::At(p) => CellAnswer::Is(packed(frame(c), level - 1, p, 0, 0)),
+    }
+}
+
+// The parent of the parent, until the target's resolution is reached.
+pub fn ancestor(c: Cell, target: u8) -> CellAnswer
+    ensures { λ r. ⌜ r ≡ ancestorOf c target ⌝ }
+{
+    let level = resolution(c);
+    if level < target {
+        return CellAnswer::Refused(Refusal::NoParent);
+    }
+    if level == target {
+        return CellAnswer::Is(c);
+    }
+    let up = parent(c);
+    match up {
+        CellAnswer::Refused(r) => CellAnswer::Refused(r),
+        CellAnswer::Is(p) => ancestor(p, target),
     }
 }
