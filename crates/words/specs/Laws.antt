@@ -1,5 +1,5 @@
 -- The laws of words: what stands where a word was stored, what stands elsewhere, and what the bytes of a word are.
--- Each is stated once, over the order and the width. Assumes nothing.
+-- Each is stated once, over the width, and over the order but for a word of two words, where the order is what matters. Assumes nothing.
 use mathlib.Core.Path.{_≡_, refl, sym, ap, _∙_}
 use mathlib.Core.Logic.{_≢_}
 use mathlib.Core.List.{List, [], _∷_, _++_, reverseAux, reverse-append, reverse-reverse, append-assoc}
@@ -97,12 +97,12 @@ unfolding ordered
 bytes-ordered big l b = bytes-reverse l [] b (λ i. omega arith)
 bytes-ordered little l b = b
 
-bytes-take : (n : ℕ) (l : List ℕ) → Bytes l → Bytes (take n l)
+pub bytes-take : (n : ℕ) (l : List ℕ) → Bytes l → Bytes (take n l)
 bytes-take zero l b i = omega arith
 bytes-take (suc n) [] b i = omega arith
 bytes-take (suc n) (x ∷ l) b i = bytes-cons x (take n l) (b 0) (bytes-take n l (λ k. b (suc k))) i
 
-bytes-drop : (n : ℕ) (l : List ℕ) → Bytes l → Bytes (drop n l)
+pub bytes-drop : (n : ℕ) (l : List ℕ) → Bytes l → Bytes (drop n l)
 bytes-drop n l b i = rw getD-drop (b (n + i))
 
 bytes-set : (l : List ℕ) (i a : ℕ) → a < 256 → Bytes l → Bytes (set l i a)
@@ -191,6 +191,12 @@ word-take o n l k p h f =
     let long = length-take-le k l f in
     sym (word-append-left o n (take k l) (drop k l) p (omega arith)) ∙ ap (λ (m : List ℕ). word o n m p) (take-append-drop k l)
 
+-- the bytes of the word at p are those that stand there
+pub bytesOf-part : (o : Order) (n : ℕ) (l : List ℕ) (p : ℕ) → p + n ≤ length l → Bytes l → bytesOf o n (word o n l p) ≡ take n (drop p l)
+bytesOf-part o n l p h b =
+    let long : length (take n (drop p l)) ≡ n = length-take-le n (drop p l) (rw length-drop (omega arith)) in
+    ap (bytesOf o n) (word-part o n l p) ∙ bytesOf-word o n (take n (drop p l)) long (bytes-take n (drop p l) (bytes-drop p l b))
+
 -- ---- the range of a word
 
 pub word-lt : (o : Order) (n : ℕ) (l : List ℕ) (p : ℕ) → Bytes l → word o n l p < 256 ^ n
@@ -273,11 +279,8 @@ stored-mod o n l p v = rw digits-mod
 -- to store what stands there changes nothing
 pub stored-word : (o : Order) (n : ℕ) (l : List ℕ) (p : ℕ) → p + n ≤ length l → Bytes l → stored o n l p (word o n l p) ≡ l
 stored-word o n l p h b =
-    let part = take n (drop p l) in
-    let long : length part ≡ n = length-take-le n (drop p l) (rw length-drop (omega arith)) in
-    let same : bytesOf o n (word o n l p) ≡ part = ap (bytesOf o n) (word-part o n l p) ∙ bytesOf-word o n part long (bytes-take n (drop p l) (bytes-drop p l b)) in
     stored-parts o n l p (word o n l p) h
-    ∙ ap (λ (m : List ℕ). take p l ++ m ++ drop (p + n) l) same
+    ∙ ap (λ (m : List ℕ). take p l ++ m ++ drop (p + n) l) (bytesOf-part o n l p h b)
     ∙ ap (λ (m : List ℕ). m ++ drop (p + n) l) (sym (take-add p n l))
     ∙ take-append-drop (p + n) l
 
