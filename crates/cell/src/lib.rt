@@ -2,11 +2,13 @@
 ghost use mathlib.Core.Path.{_≡_};
 ghost use mathlib.Core.List.{map};
 ghost use Rattle.lattice.specs.Lattice.{at};
-ghost use Rattle.cell.specs.Cell.{frameOf, resolutionOf, exponentOf, flagsOf, reservedOf, xOf, yOf, zOf, coordOf, packed, newOf, latticeCoordOf, isPlain, sameCell, lessCell, orderOf, plainAt, noNeighbors, neighborsOf, noChildren, childrenOf, parentOf, ancestorOf};
+ghost use Rattle.cell.specs.Cell.{frameOf, resolutionOf, exponentOf, flagsOf, reservedOf, xOf, yOf, zOf, coordOf, packed, newOf, latticeCoordOf, isPlain, sameCell, lessCell, orderOf, plainAt, noNeighbors, neighborsOf, noChildren, childrenOf, parentOf, ancestorOf, alike, betweenOf, manhattanCells};
 
 mod twos;
 
 use lattice::CoordAnswer;
+use lattice::NumberAnswer;
+use lattice::Parity;
 use lattice::ParityAnswer;
 use refusal::Cell;
 use refusal::Coord;
@@ -330,4 +332,56 @@ pub fn ancestor(c: Cell, target: u8) -> CellAnswer
         CellAnswer::Refused(r) => CellAnswer::Refused(r),
         CellAnswer::Is(p) => ancestor(p, target),
     }
+}
+
+fn alike(p: Parity, q: Parity) -> bool
+    ensures { λ r. ⌜ r ≡ alike p q ⌝ }
+{
+    match p {
+        Parity::Even => match q {
+            Parity::Even => true,
+            Parity::Odd => false,
+        },
+        Parity::Odd => match q {
+            Parity::Even => false,
+            Parity::Odd => true,
+        },
+    }
+}
+
+// Nothing between cells of two resolutions or two parities; else it is only asked whether they are too far apart.
+pub fn cell_between(a: Cell, b: Cell) -> Between
+    ensures { λ r. ⌜ r ≡ betweenOf a b ⌝ }
+{
+    if resolution(a) != resolution(b) {
+        return Between::Nothing;
+    }
+    let here = coord(a);
+    let there = coord(b);
+    let first = lattice::parity_of(here);
+    let second = lattice::parity_of(there);
+    match first {
+        ParityAnswer::Refused(r) => Between::Refused(r),
+        ParityAnswer::Is(p) => match second {
+            ParityAnswer::Refused(r) => Between::Refused(r),
+            ParityAnswer::Is(q) => {
+                if alike(p, q) {
+                    let apart = lattice::manhattan_distance_to(there, here);
+                    match apart {
+                        NumberAnswer::Is(_) => Between::Nothing,
+                        NumberAnswer::Refused(r) => Between::Refused(r),
+                    }
+                } else {
+                    Between::Nothing
+                }
+            }
+        },
+    }
+}
+
+// That of the places.
+pub fn manhattan_distance_to(a: Cell, b: Cell) -> NumberAnswer
+    ensures { λ r. ⌜ r ≡ manhattanCells a b ⌝ }
+{
+    lattice::manhattan_distance_to(coord(a), coord(b))
 }
