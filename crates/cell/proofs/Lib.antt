@@ -2,4 +2,5 @@ mod Answers
 mod Climb
 mod Complement
 mod Filled
+mod Stored
 mod Words

@@ -2,6 +2,9 @@
 ghost use mathlib.Core.Path.{_≡_};
 ghost use mathlib.Core.List.{map};
 ghost use Rattle.lattice.specs.Lattice.{at};
+ghost use Prim.Native.Nat.{_+_, _≤_};
+ghost use lib.ListN.{length};
+ghost use Rattle.cell.specs.Bytes.{cellAt, cellBytes, cellStored, fromBytesOf};
 ghost use Rattle.cell.specs.Cell.{frameOf, resolutionOf, exponentOf, flagsOf, reservedOf, xOf, yOf, zOf, coordOf, packed, newOf, latticeCoordOf, isPlain, sameCell, lessCell, orderOf, plainAt, noNeighbors, neighborsOf, noChildren, childrenOf, parentOf, ancestorOf, alike, betweenOf, manhattanCells};
 
 mod twos;
@@ -384,4 +387,43 @@ pub fn manhattan_distance_to(a: Cell, b: Cell) -> NumberAnswer
     ensures { λ r. ⌜ r ≡ manhattanCells a b ⌝ }
 {
     lattice::manhattan_distance_to(coord(a), coord(b))
+}
+
+// The cell that the 16 bytes at `at` make.
+pub fn read_at(s: &[u8], at: usize) -> Cell
+    requires { ⌜ at + 16 ≤ length (now s) ⌝ }
+    ensures { λ r. ⌜ r ≡ cellAt (now (s .entry)) at ⌝ }
+{
+    Cell {
+        high: words::read64_big(s, at),
+        low: words::read64_big(s, at + 8),
+    }
+}
+
+// Stores a cell's 16 bytes at `at`.
+pub fn write_at(s: &mut [u8], at: usize, c: Cell)
+    requires { ⌜ at + 16 ≤ length (now s) ⌝ }
+    ensures { λ _. ⌜ now (s .exit) ≡ cellStored (now (s .entry)) at c ⌝ }
+{
+    words::write64_big(s, at, c.high);
+    words::write64_big(s, at + 8, c.low);
+}
+
+pub fn to_bytes(c: Cell) -> [u8; 16]
+    ensures { λ r. ⌜ r ≡ cellBytes c ⌝ }
+{
+    let mut bytes = [0u8; 16];
+    write_at(&mut bytes, 0, c);
+    bytes
+}
+
+// Takes any 16 bytes.
+pub fn from_bytes(s: &[u8]) -> CellAnswer
+    ensures { λ r. ⌜ r ≡ fromBytesOf (now (s .entry)) ⌝ }
+{
+    if s.len() == 16 {
+        CellAnswer::Is(read_at(s, 0))
+    } else {
+        CellAnswer::Refused(Refusal::BadList)
+    }
 }
