@@ -126,6 +126,14 @@ pub fn packed(frame: u8, resolution: u8, c: Coord, exponent: u8, flags: u8) -> C
     }
 }
 
+// The plain cell at a place.
+fn plain(frame: u8, resolution: u8, c: Coord) -> Cell
+    ensures { λ r. ⌜ r ≡ plainAt frame resolution c ⌝ }
+{
+    packed(frame, resolution, c, 0, 0)
+}
+
+// The cell of these fields, refused where the place is no lattice point.
 fn new_at(frame: u8, resolution: u8, c: Coord, exponent: u8, flags: u8) -> CellAnswer
     ensures { λ r. ⌜ r ≡ newOf frame resolution c exponent flags ⌝ }
 {
@@ -219,7 +227,7 @@ fn plain14(frame: u8, resolution: u8, places: [Coord; 14]) -> [Cell; 14]
     let mut cells = [ZERO; 14];
     let mut i = 0;
     while i < 14 {
-        cells[i] = packed(frame, resolution, places[i], 0, 0);
+        cells[i] = plain(frame, resolution, places[i]);
         i += 1;
     }
     cells
@@ -263,7 +271,7 @@ fn plain8(frame: u8, resolution: u8, places: [Coord; 8]) -> [Cell; 8]
     let mut cells = [ZERO; 8];
     let mut i = 0;
     while i < 8 {
-        cells[i] = packed(frame, resolution, places[i], 0, 0);
+        cells[i] = plain(frame, resolution, places[i]);
         i += 1;
     }
     cells
@@ -315,7 +323,7 @@ pub fn parent(c: Cell) -> CellAnswer
     let place = lattice::get_parent(coord(c));
     match place {
         CoordAnswer::Refused(r) => CellAnswer::Refused(r),
-        CoordAnswer::At(p) => CellAnswer::Is(packed(frame(c), level - 1, p, 0, 0)),
+        CoordAnswer::At(p) => CellAnswer::Is(plain(frame(c), level - 1, p)),
     }
 }
 

@@ -40,11 +40,11 @@ enum-known-place-2 c = search needs
 frame-requires : tie.Need-frame-requires
 frame-requires c κs = search needs
 
-sub-packed : tie.Need-sub-packed
-sub-packed c = search needs
+sub-plain : tie.Need-sub-plain
+sub-plain c = search needs
 
-packed-requires : tie.Need-packed-requires
-packed-requires c κs = search needs
+plain-requires : tie.Need-plain-requires
+plain-requires c κs = search needs
 
 returns-2 : tie.Need-returns-2
 returns-2 c =
@@ -58,7 +58,7 @@ returns-3 c =
     let told = c .before .before .before in
     let up = told .before .before in
     let level = up .before .before in
-    let cell = c .packed .ensures ∙ (λ i. plainAt (c .before .frame .ensures i) (level .before .resolution .ensures i - 1) (told .place2 .given .0 .0)) in
+    let cell = c .plain .ensures ∙ (λ i. plainAt (c .before .frame .ensures i) (level .before .resolution .ensures i - 1) (told .place2 .given .0 .0)) in
     ap Is cell
     ∙ by-place (level .before .before .args .c) (level .before .resolution .ensures) (level .if1 .left) (up .before .coord .ensures) (up .get-parent .ensures) (told .place2 .given .1)
 
@@ -73,7 +73,7 @@ parent-spec =
     enum-known-place
     enum-known-place-2
     frame-requires
-    sub-packed
-    packed-requires
+    sub-plain
+    plain-requires
     returns-2
     returns-3)
