@@ -1,0 +1,63 @@
+-- The invariant: the first i cells are those of the first i places.
+use borrow.Author.Needs.{needs}
+use native.Mathlib.Omega.{arith}
+use Prim.Native.Nat.{_-_}
+use lib.IntN.{pos}
+use Rattle.lattice.specs.Lattice.{at}
+use Rattle.cell.specs.Cell.{plainAt}
+use Rattle.cell.proofs.Filled.{Filled, filled-more, filled-all}
+use Rattle.cell.proofs.plain8.Statement.{statement}
+use Rattle.cell.proofs.plain8.Tie as tie
+
+abbrev Inv-loop : tie.InvT-loop
+Inv-loop frame resolution places cells₀ i₀ cells i = Filled 8 (plainAt frame resolution) places cells i
+
+abbrev μ-loop : tie.MeasureT-loop
+μ-loop frame resolution places cells₀ i₀ cells i = 8 - i
+
+loop-holds : tie.Need-loop-holds Inv-loop μ-loop
+loop-holds c = search needs
+
+mul-plain : tie.Need-mul-plain Inv-loop μ-loop
+mul-plain c = search needs
+
+array-copy-out-plain : tie.Need-array-copy-out-plain Inv-loop μ-loop
+array-copy-out-plain c = search needs
+
+plain-requires : tie.Need-plain-requires Inv-loop μ-loop
+plain-requires c κs = search needs
+
+mul-cells : tie.Need-mul-cells Inv-loop μ-loop
+mul-cells c = search needs
+
+array-set-from-cells : tie.Need-array-set-from-cells Inv-loop μ-loop
+array-set-from-cells c = search needs
+
+add-i : tie.Need-add-i Inv-loop μ-loop
+add-i c = search needs
+
+loop-less : tie.Need-loop-less Inv-loop μ-loop
+loop-less c = search needs
+
+loop-again : tie.Need-loop-again Inv-loop μ-loop
+loop-again c = filled-more (c .before .before .before .loop .inv) (at (pos 0) (pos 0) (pos 0)) (c .plain .result) (omega arith) (c .plain .ensures)
+
+returns : tie.Need-returns Inv-loop μ-loop
+returns c = filled-all (c .before .loop .inv) (omega arith)
+
+pub plain8-spec : {M : Type 1} → statement M
+plain8-spec =
+    tie.close
+    (tie.spec
+    Inv-loop
+    μ-loop
+    loop-holds
+    mul-plain
+    array-copy-out-plain
+    plain-requires
+    mul-cells
+    array-set-from-cells
+    add-i
+    loop-less
+    loop-again
+    returns)
