@@ -7,6 +7,7 @@ use crate::calls::{Call, Request};
 use oracle::error::Error;
 use oracle::id::CellID;
 use oracle::lattice::{Lattice, LatticeCoord, Parity};
+use std::cell::Cell;
 use std::panic::{catch_unwind, AssertUnwindSafe};
 
 pub const INVALID_PARITY: u32 = 1;
@@ -106,10 +107,18 @@ impl From<Error> for Refusal {
     }
 }
 
+thread_local! {
+    /// Whether the oracle is at work.
+    static RUNNING: Cell<bool> = const { Cell::new(false) };
+}
+
 /// Runs the Rust. An overflow is CoordOverflow; an `unwrap` of InvalidParity is that refusal, with
 /// the coordinates that the panic names.
 fn run<T>(call: impl FnOnce() -> T) -> Result<T, Refusal> {
-    catch_unwind(AssertUnwindSafe(call)).map_err(|panic| {
+    RUNNING.set(true);
+    let ran = catch_unwind(AssertUnwindSafe(call));
+    RUNNING.set(false);
+    ran.map_err(|panic| {
         let text = match (panic.downcast_ref::<&str>(), panic.downcast_ref::<String>()) {
             (Some(text), _) => text.to_string(),
             (_, Some(text)) => text.clone(),
@@ -132,14 +141,11 @@ fn run<T>(call: impl FnOnce() -> T) -> Result<T, Refusal> {
     })
 }
 
-/// Silences the panics that `run` catches; others still end the program.
+/// Silences the panics that `run` catches.
 pub fn quiet() {
     let loud = std::panic::take_hook();
     std::panic::set_hook(Box::new(move |panic| {
-        let own = panic
-            .location()
-            .is_some_and(|place| place.file().contains("compare/"));
-        if own {
+        if !RUNNING.get() {
             loud(panic);
         }
     }));
@@ -320,7 +326,7 @@ pub fn by_the_ranges(request: &Request) -> Option<u32> {
         let word = |at: usize| i32::from_be_bytes(cell[at..at + 4].try_into().unwrap());
         [word(8), word(4), word(0)].map(i64::from)
     };
-    let numbers = |from: usize| [0, 1, 2].map(|place| request.numbers[from + place]);
+    let numbers = |from: usize| [0, 1, 2].map(|place| i64::from(request.i32(from + place)));
     let (first, second) = match request.call.cells() {
         0 => (numbers(0), numbers(3)),
         1 => (of(request.first.cell()?), [0; 3]),

@@ -50,7 +50,12 @@ impl Library {
             ]);
             bytes.extend(request.room.to_le_bytes());
             bytes.extend([request.null.into(), 0]);
-            bytes.extend(request.numbers.iter().flat_map(|number| number.to_le_bytes()));
+            bytes.extend(
+                request
+                    .numbers
+                    .iter()
+                    .flat_map(|number| number.to_le_bytes()),
+            );
             bytes.extend(first);
             bytes.extend(second);
         }

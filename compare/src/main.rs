@@ -62,18 +62,12 @@ impl Compare {
     fn one_by_one(&mut self, requests: &[Request], wanted: &[Answer]) {
         for (request, wanted) in requests.iter().zip(wanted) {
             let one = std::slice::from_ref(request);
-            let said = self
-                .library
-                .ask(one)
-                .and_then(|()| self.library.hear(one));
+            let said = self.library.ask(one).and_then(|()| self.library.hear(one));
             match said {
                 Ok(said) => self.judge(request, wanted, &said[0]),
                 Err(_) => {
                     self.restart();
-                    let said = self
-                        .library
-                        .ask(one)
-                        .and_then(|()| self.library.hear(one));
+                    let said = self.library.ask(one).and_then(|()| self.library.hear(one));
                     match said {
                         Ok(said) => self.judge(request, wanted, &said[0]),
                         Err(_) => {
@@ -239,7 +233,10 @@ fn main() {
     inputs::limits(&mut |request| compare.add(request));
     inputs::small(&mut |request| compare.add(request));
     compare.flush();
-    println!("limits and small inputs: {:.1} s", begin.elapsed().as_secs_f64());
+    println!(
+        "limits and small inputs: {:.1} s",
+        begin.elapsed().as_secs_f64()
+    );
     let mut random = inputs::Random::new(seed);
     let mut rounds = 0;
     while rounds < 8 || begin.elapsed() < Duration::from_secs(seconds) {

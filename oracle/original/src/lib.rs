@@ -5,10 +5,14 @@
 #[path = "../../error.rs"]
 pub mod error;
 #[path = "../../octaindex3d/id.rs"]
+#[rustfmt::skip]
 pub mod id;
 #[path = "../../octaindex3d/lattice.rs"]
+#[rustfmt::skip]
 pub mod lattice;
 #[path = "../../octaindex3d/layer.rs"]
+#[rustfmt::skip]
 pub mod layer;
 #[path = "../../octaindex3d/path.rs"]
+#[rustfmt::skip]
 pub mod path;

@@ -5,10 +5,14 @@
 #[path = "../../error.rs"]
 pub mod error;
 #[path = "../../../target/oracle-source/id.rs"]
+#[rustfmt::skip]
 pub mod id;
 #[path = "../../../target/oracle-source/lattice.rs"]
+#[rustfmt::skip]
 pub mod lattice;
 #[path = "../../../target/oracle-source/layer.rs"]
+#[rustfmt::skip]
 pub mod layer;
 #[path = "../../../target/oracle-source/path.rs"]
+#[rustfmt::skip]
 pub mod path;
