@@ -532,16 +532,4 @@ fn main() {
         std::process::exit(2);
     }
     println!("{file}: {records} records");
-    for call in Call::ALL {
-        let own = list
-            .bytes
-            .chunks(RECORD)
-            .filter(|record| record[0] == call.number());
-        let refused = own.clone().filter(|record| record[5] != 0).count();
-        println!(
-            "{:28} {:4}, {refused} of them refused",
-            call.name(),
-            own.count()
-        );
-    }
 }
