@@ -4,7 +4,7 @@
 #![allow(deprecated)]
 
 use original::id::CellID;
-use original::lattice::LatticeCoord;
+use original::lattice::{Lattice, LatticeCoord};
 use original::path::{astar_with_limit, EuclideanCost};
 
 fn coord(x: i32, y: i32, z: i32) -> LatticeCoord {
@@ -45,6 +45,24 @@ fn distances_wrap() {
         coord(2147483646, 2, 0).manhattan_distance_to(&zero),
         -2147483648
     );
+}
+
+#[test]
+fn cell_between_wraps_to_nothing() {
+    let (here, far) = (plain(0, 0, 0), plain(-2147483648, 0, 0));
+    assert_eq!(here.cell_between(far), None);
+}
+
+#[test]
+fn unchecked_points_are_answered() {
+    let mixed = LatticeCoord::new_unchecked(0, 1, 0);
+    assert_eq!(mixed.to_physical(), (0.0, 1.0, 0.0));
+    assert_eq!(mixed.distance_to(&coord(0, 0, 0)), 1.0);
+    assert_eq!(mixed.manhattan_distance_to(&coord(0, 0, 0)), 1);
+    assert_eq!(Lattice::get_neighbors(&mixed).len(), 14);
+    assert_eq!(Lattice::get_children(&mixed).len(), 8);
+    let parent = Lattice::get_parent(&mixed);
+    assert_eq!((parent.x, parent.y, parent.z), (0, 0, 0));
 }
 
 #[test]
