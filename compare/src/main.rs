@@ -21,7 +21,8 @@ const BATCH: usize = 4096;
 struct Found {
     compared: u64,
     differences: u64,
-    refusals: u64,
+    /// How often each refusal was due, by its number; 0 where the call answers.
+    due: [u64; 16],
     smallest: Option<(Request, String)>,
 }
 
@@ -139,9 +140,7 @@ impl Compare {
 
         let found = &mut self.found[usize::from(request.call.number())];
         found.compared += 1;
-        if wanted.refusal.number != 0 {
-            found.refusals += 1;
-        }
+        found.due[wanted.refusal.number as usize] += 1;
         if !wrong.is_empty() {
             self.differ(request, wrong.join("; "));
         }
@@ -162,32 +161,41 @@ impl Compare {
     /// Prints what was found; whether nothing differs.
     fn report(&self) -> bool {
         println!(
-            "{:28} {:>12} {:>12} {:>12}",
-            "call", "compared", "refused", "differences"
+            "{:28} {:>10} {:>11}   answered, refused",
+            "call", "compared", "differences"
         );
         let mut total = Found::default();
         for call in Call::ALL {
             let found = &self.found[usize::from(call.number())];
-            println!(
-                "{:28} {:>12} {:>12} {:>12}",
-                call.name(),
-                found.compared,
-                found.refusals,
-                found.differences
-            );
+            found.print(call.name());
             if let Some((request, wrong)) = &found.smallest {
                 println!("    smallest: {}", request.words());
                 println!("    {wrong}");
             }
             total.compared += found.compared;
-            total.refusals += found.refusals;
             total.differences += found.differences;
+            for (sum, due) in total.due.iter_mut().zip(found.due) {
+                *sum += due;
+            }
+        }
+        total.print("all");
+        total.differences == 0
+    }
+}
+
+impl Found {
+    /// One line: the counts, then how many answers were due and how many of each refusal.
+    fn print(&self, name: &str) {
+        let mut due = self.due[0].to_string();
+        for (number, count) in self.due.iter().enumerate().skip(1) {
+            if *count > 0 {
+                due += &format!(", {number}: {count}");
+            }
         }
         println!(
-            "{:28} {:>12} {:>12} {:>12}",
-            "all", total.compared, total.refusals, total.differences
+            "{name:28} {:>10} {:>11}   {due}",
+            self.compared, self.differences
         );
-        total.differences == 0
     }
 }
 

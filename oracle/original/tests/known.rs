@@ -6,6 +6,7 @@
 use original::id::CellID;
 use original::lattice::{Lattice, LatticeCoord};
 use original::path::{astar_with_limit, EuclideanCost};
+use std::panic::catch_unwind;
 
 fn coord(x: i32, y: i32, z: i32) -> LatticeCoord {
     LatticeCoord::new(x, y, z).unwrap()
@@ -51,6 +52,19 @@ fn distances_wrap() {
 fn cell_between_wraps_to_nothing() {
     let (here, far) = (plain(0, 0, 0), plain(-2147483648, 0, 0));
     assert_eq!(here.cell_between(far), None);
+}
+
+#[test]
+fn mixed_parity_is_a_panic() {
+    let mixed = CellID::from_bytes((1u128 << 64).to_be_bytes());
+    assert_eq!((mixed.x(), mixed.y(), mixed.z()), (0, 1, 0));
+    assert!(catch_unwind(|| mixed.neighbors()).is_err());
+    assert!(catch_unwind(|| mixed.cell_between(plain(0, 0, 0))).is_err());
+}
+
+#[test]
+fn there_is_no_cell_between() {
+    assert_eq!(plain(0, 0, 0).cell_between(plain(2, 0, 0)), None);
 }
 
 #[test]

@@ -14,6 +14,10 @@ fn plain(x: i32, y: i32, z: i32) -> CellID {
     CellID::from_coords(0, 0, x, y, z).unwrap()
 }
 
+fn coord(x: i32, y: i32, z: i32) -> LatticeCoord {
+    LatticeCoord::new(x, y, z).unwrap()
+}
+
 /// A cell of any coordinates, mixed ones too.
 fn any(x: i32, y: i32, z: i32) -> CellID {
     let word = |number: i32| u128::from(number as u32);
@@ -51,7 +55,7 @@ fn cell_and_lattice() {
         ((-2, 0, 0), (-2, 0, 0)),
         ((-3, 1, -1), (-2, 0, 0)),
     ] {
-        let found = Lattice::get_parent(&LatticeCoord::new(child.0, child.1, child.2).unwrap());
+        let found = Lattice::get_parent(&coord(child.0, child.1, child.2));
         assert_eq!((found.x, found.y, found.z), parent);
     }
     assert_eq!(3.0f64.sqrt().to_bits(), 0x3FFBB67AE8584CAA);
@@ -71,6 +75,29 @@ fn snap() {
             "physical coordinate 2147483646.5 out of lattice range at resolution 0".to_string()
         ))
     );
+}
+
+#[test]
+fn snap_leaves_its_own_range() {
+    let top = Lattice::physical_to_lattice(2147483646.0, 2147483645.0, 2147483645.0, 0);
+    assert_eq!(top, Ok(coord(2147483647, 2147483645, 2147483645)));
+    let bottom = Lattice::physical_to_lattice(-2147483646.0, -2147483645.0, -2147483645.0, 0);
+    assert_eq!(bottom, Ok(coord(-2147483647, -2147483645, -2147483645)));
+}
+
+#[test]
+fn snap_compares_rounded_sums() {
+    // x + y + z is one step above 3/2, so (1, 1, 1) is nearer by a hair; the rounded sums tie.
+    let z = 0.71875f64.next_up();
+    let point = Lattice::physical_to_lattice(0.75, 0.03125, z, 0);
+    assert_eq!(point, Ok(coord(0, 0, 0)));
+}
+
+#[test]
+fn distance_has_a_direction() {
+    let (low, zero) = (coord(i32::MIN, 0, 0), coord(0, 0, 0));
+    assert_eq!(low.distance_to(&zero), 2147483648.0);
+    assert!(panics(move || zero.distance_to(&low)).ends_with("with overflow"));
 }
 
 #[test]
@@ -131,6 +158,8 @@ fn overflow_is_a_panic() {
         panics(|| any(1073741823, 1, 1).children()),
         panics(|| any(1073741824, 0, 0).children()),
         panics(|| any(0, -1073741824, 0).children()),
+        panics(|| coord(0, 0, 0).distance_to(&coord(i32::MIN, 0, 0))),
+        panics(|| coord(i32::MIN, 0, 0).manhattan_distance_to(&coord(0, 0, 0))),
         panics(|| plain(0, 0, 0).cell_between(any(i32::MIN, 0, 0))),
     ] {
         assert!(call.ends_with("with overflow"), "{call}");
@@ -149,6 +178,14 @@ fn mixed_parity_is_a_panic() {
             "{call}"
         );
     }
+}
+
+#[test]
+fn unchecked_points_are_answered() {
+    let mixed = LatticeCoord::new_unchecked(0, 1, 0);
+    assert_eq!(mixed.to_physical(), (0.0, 1.0, 0.0));
+    assert_eq!(Lattice::get_neighbors(&mixed).len(), 14);
+    assert_eq!(Lattice::get_parent(&mixed), coord(0, 0, 0));
 }
 
 #[test]
