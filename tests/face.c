@@ -137,6 +137,8 @@ static void parity(void)
     CHECK(answered(parity.refusal) && parity.value == 0);
     parity = tishkolan_opposite(2);
     CHECK(refused(parity.refusal, TISHKOLAN_OUT_OF_RANGE) && parity.value == 0);
+    parity = tishkolan_opposite(UINT32_MAX);
+    CHECK(refused(parity.refusal, TISHKOLAN_OUT_OF_RANGE) && parity.value == 0);
 
     CHECK(tishkolan_is_valid_lattice_point(-3, 1, -1));
     CHECK(!tishkolan_is_valid_lattice_point(-3, 1, -2));
@@ -217,6 +219,8 @@ static void physical(void)
     CHECK(answered(point.refusal) && point.x == 0 && point.y == 0 && point.z == 0);
     point = snap(-1.0, 0.0, 0.0, 0); /* a half goes away from zero */
     CHECK(answered(point.refusal) && point.x == -2 && point.y == 0 && point.z == 0);
+    point = snap(0.0, 1.0, 1.0, 0); /* as far from x = 1 as from x = -1: away from zero again */
+    CHECK(answered(point.refusal) && point.x == -1 && point.y == 1 && point.z == 1);
     point = snap(0.75, 0.75, 0.75, 2); /* (3, 3, 3) once multiplied by 4 */
     CHECK(answered(point.refusal) && point.x == 3 && point.y == 3 && point.z == 3);
     point = snap(2147483646.0, 0.0, 0.0, 0);
@@ -275,6 +279,8 @@ static void cell_made(void)
     fill(out, sizeof out);
     CHECK(answered(tishkolan_cell_new(0, 3, 1, -1, 1, 28, 165, out, 20)));
     CHECK(memcmp(out, expected, CELL) == 0 && untouched(out + CELL, 4));
+    CHECK(answered(tishkolan_cell_new(7, 3, 1, -1, 1, 16, 0, out, 20))); /* and 16 as 0 */
+    CHECK(same(out, at(3, 1, -1, 1)));
     fill(out, sizeof out);
     CHECK(answered(tishkolan_cell_from_coords(7, 3, 1, -1, 1, out, CELL)));
     CHECK(same(out, at(3, 1, -1, 1)) && untouched(out + CELL, 4));
@@ -292,6 +298,8 @@ static void cell_made(void)
 static void cell_read(void)
 {
     const cell plain = at(3, 1, -1, 1), some = marked(plain), broken = at(3, 0, 1, 0);
+    const cell below = at(3, 0, 0, -2), above = at(3, 0, 0, 2);
+    cell reserved = plain;
 
     tishkolan_fields_answer fields = tishkolan_cell_fields(some.bytes, CELL);
     CHECK(answered(fields.refusal));
@@ -317,6 +325,9 @@ static void cell_read(void)
     CHECK(answered(number.refusal) && number.value == 1);
     number = tishkolan_cell_is_plain(some.bytes, CELL);
     CHECK(answered(number.refusal) && number.value == 0);
+    reserved.bytes[12] = 0x10;
+    number = tishkolan_cell_is_plain(reserved.bytes, CELL);
+    CHECK(answered(number.refusal) && number.value == 0);
     number = tishkolan_cell_is_plain(plain.bytes, 0);
     CHECK(refused(number.refusal, TISHKOLAN_BAD_LIST) && number.value == 0);
 
@@ -325,6 +336,9 @@ static void cell_read(void)
     number = tishkolan_cell_compare(some.bytes, CELL, some.bytes, CELL);
     CHECK(answered(number.refusal) && number.value == 0);
     number = tishkolan_cell_compare(some.bytes, CELL, plain.bytes, CELL);
+    CHECK(answered(number.refusal) && number.value == 1);
+    /* By the bits: a negative z is above all others. */
+    number = tishkolan_cell_compare(below.bytes, CELL, above.bytes, CELL);
     CHECK(answered(number.refusal) && number.value == 1);
     number = tishkolan_cell_compare(some.bytes, 15, plain.bytes, CELL);
     CHECK(refused(number.refusal, TISHKOLAN_BAD_LIST) && number.value == 0);
@@ -374,6 +388,7 @@ static void cell_children(void)
     CHECK(refused(tishkolan_cell_children(finest.bytes, CELL, out, exact), TISHKOLAN_NO_CHILDREN));
     CHECK(mixed(tishkolan_cell_children(broken.bytes, CELL, out, exact), 0, 1, 0));
     CHECK(refused(tishkolan_cell_children(edge.bytes, CELL, out, exact), TISHKOLAN_COORD_OVERFLOW));
+    CHECK(refused(tishkolan_cell_children(edge.bytes, CELL, out, 0), TISHKOLAN_COORD_OVERFLOW));
     CHECK(no_room(tishkolan_cell_children(from.bytes, CELL, out, exact - 1)));
     CHECK(no_room(tishkolan_cell_children(from.bytes, CELL, NULL, 0)));
     CHECK(untouched(out, sizeof out));

@@ -751,16 +751,18 @@ impl Random {
     /// A point near which the even and the odd candidate are about equally far.
     fn tied(&mut self) -> [f64; 3] {
         let base = [(); 3].map(|()| self.between(-1000, 1000) as f64 * 2.0);
-        // The distances to (0,0,0) and (1,1,1) agree where x + y + z = 3/2.
-        let x = self.below(1 << 20) as f64 / f64::from(1 << 20);
-        let y = self.below(1 << 20) as f64 / f64::from(1 << 20);
-        let z = 1.5 - x - y;
-        let mut point = [x, y, z];
-        if self.below(2) == 0 {
-            point = point.map(|number| number / 3.0 * 3.0);
-        }
+        // The distances to (0,0,0) and (1,1,1) agree where x + y + z = 3/2. With few digits the
+        // squares are exact; with many the rounding decides.
+        let digits = self.one_of(&[4, 20, 30, 53, 53]);
+        let part = |random: &mut Random| {
+            (random.next() >> (64 - digits)) as f64 / 2.0f64.powi(digits as i32)
+        };
+        let (x, y) = (part(self), part(self));
+        let turned = self.below(3) as usize;
+        let mut point = [x, y, 1.5 - x - y];
+        point.rotate_left(turned);
         let sign = [(); 3].map(|()| self.one_of(&[1.0, -1.0]));
-        let far = self.one_of(&[0.0, 1.0, 1000.0, 100000.0]);
+        let far = self.one_of(&[0.0, 0.0, 0.0, 1.0, 1000.0, 100000.0]);
         [0, 1, 2].map(|axis| {
             let at = base[axis] * far + point[axis] * sign[axis];
             self.one_of(&[at, at, at.next_up(), at.next_down()])
@@ -826,7 +828,7 @@ fn one(random: &mut Random, call: Call) -> Request {
             let resolution = random.resolution();
             let scale = 2.0f64.powi(resolution.into());
             let point = match random.below(4) {
-                0 => random.tied(),
+                0 | 1 => random.tied(),
                 _ => [(); 3].map(|()| random.scaled()),
             };
             // As it stands now and then, else so that the product is this point.

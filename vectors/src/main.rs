@@ -323,6 +323,12 @@ fn snaps(list: &mut List) {
         [1.5, 1.5, 1.5],
         [0.75, 0.25, 0.5],
         [0.1, 0.2, 1.2],
+        [0.75, 0.03125, 0.71875f64.next_up()],
+        [0.0, 1.0, 1.0],
+        [2.0, 1.0, 1.0],
+        [-2.0, 1.0, -1.0],
+        [1.0, 0.0, 3.0],
+        [-1.0, 1.0, -4.0],
         [1000000.1, 999999.9, 1000000.5],
         [f64::NAN, 0.0, 0.0],
         [0.0, -f64::NAN, 0.0],
@@ -334,7 +340,10 @@ fn snaps(list: &mut List) {
     ] {
         snap(list, point, 0);
     }
-    // A grid of halves, and every quarter of one cell's diagonal.
+    for point in rounded_ties() {
+        snap(list, point, 0);
+    }
+    // A grid of halves.
     for place in 0..27 {
         let half = |place: i32| f64::from(place % 3 - 1) * 0.5 + 1.0;
         snap(list, [half(place), half(place / 3), -half(place / 9)], 0);
@@ -355,6 +364,59 @@ fn snaps(list: &mut List) {
         );
         snap(list, [0.0, f64::from_bits(1), 1.0], resolution);
     }
+}
+
+/// Numbers that look random and are the same each time (splitmix64).
+fn next(state: &mut u64) -> u64 {
+    *state = state.wrapping_add(0x9E37_79B9_7F4A_7C15);
+    let mut word = *state;
+    word = (word ^ (word >> 30)).wrapping_mul(0xBF58_476D_1CE4_E5B9);
+    word = (word ^ (word >> 27)).wrapping_mul(0x94D0_49BB_1331_11EB);
+    word ^ (word >> 31)
+}
+
+/// Points about as far from (0, 0, 0) as from (1, 1, 1), where another way to sum the squares
+/// would choose the other point: four for the sum from the other end, four for fused products.
+fn rounded_ties() -> Vec<[f64; 3]> {
+    let plain = |[x, y, z]: [f64; 3]| x * x + y * y + z * z;
+    let other_end = |[x, y, z]: [f64; 3]| z * z + y * y + x * x;
+    let fused = |[x, y, z]: [f64; 3]| z.mul_add(z, y.mul_add(y, x * x));
+    let mut state = 1;
+    let mut found = [Vec::new(), Vec::new()];
+    while found.iter().any(|points| points.len() < 4) {
+        let [x, y] = [(); 2].map(|()| (next(&mut state) >> 11) as f64 / (1u64 << 53) as f64);
+        let even = [x, y, 1.5 - x - y];
+        let odd = even.map(|number| 1.0 - number);
+        let chosen = plain(even) <= plain(odd);
+        for (points, sum) in found
+            .iter_mut()
+            .zip([&other_end as &dyn Fn(_) -> f64, &fused])
+        {
+            if (sum(even) <= sum(odd)) != chosen
+                && even[2] > 0.0
+                && even[2] < 1.0
+                && points.len() < 4
+            {
+                points.push(even);
+            }
+        }
+    }
+    found.concat()
+}
+
+/// Pairs whose distance would be another if the squares were summed from the other end.
+fn rounded_pairs() -> Vec<[Point; 2]> {
+    let mut state = 2;
+    let mut found = Vec::new();
+    while found.len() < 6 {
+        let point = [(); 3].map(|()| ((next(&mut state) as i32) >> 1 & !1) as i64);
+        let [x, y, z] = point.map(|number| number as f64);
+        let sums = [x * x + y * y + z * z, z * z + y * y + x * x];
+        if sums[0].sqrt() != sums[1].sqrt() {
+            found.push([point, [0, 0, 0]]);
+        }
+    }
+    found
 }
 
 const PAIRS: [[Point; 2]; 22] = [
@@ -386,7 +448,7 @@ const PAIRS: [[Point; 2]; 22] = [
 ];
 
 fn distances(list: &mut List) {
-    for [first, second] in PAIRS {
+    for [first, second] in PAIRS.into_iter().chain(rounded_pairs()) {
         let numbers = [first, second].concat();
         list.add(Request::new(Call::LatticeDistance, &numbers));
         list.add(Request::new(Call::LatticeManhattanDistance, &numbers));
@@ -437,6 +499,7 @@ fn cells(list: &mut List) {
         [255, 255, MAX, MAX, MAX, 255, 255],
         [1, 2, MIN, MIN, MIN, 16, 1],
         [7, 9, 4, 2, 2, 15, 128],
+        [7, 9, 4, 2, 2, 16, 0],
         [7, 9, 0, 1, 0, 15, 128],
         [7, 9, -1, -1, 0, 0, 0],
         [0, 1, 0, 0, MAX, 0, 0],
