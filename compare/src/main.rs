@@ -1,8 +1,9 @@
 //! Compares every call of include/tishkolan.h with the oracle: answers, refusals with all that
 //! they carry, and every byte of lent buffers and beside them.
 //!
-//!     compare --seconds N --seed S [--library COMMAND...]
+//!     compare [--seconds N] [--seed S] [--library COMMAND...]
 //!
+//! COMMAND runs the program of answer.c; it is the one that tests/run builds unless given.
 //! The limits and all small inputs come first, always; then random inputs for N seconds (5 unless
 //! given). Exit status 1 where anything differs, 2 where it could not be compared.
 
@@ -15,6 +16,9 @@ use library::{Library, Said};
 use std::time::{Duration, Instant, SystemTime, UNIX_EPOCH};
 
 const BATCH: usize = 4096;
+
+/// So often the library's program may end under a call before the comparison stops.
+const ENDINGS: u64 = 50;
 
 /// What was found for one call.
 #[derive(Default)]
@@ -31,6 +35,7 @@ struct Compare {
     library: Library,
     waiting: Vec<Request>,
     found: Vec<Found>,
+    endings: u64,
 }
 
 impl Compare {
@@ -74,6 +79,12 @@ impl Compare {
                         Err(_) => {
                             self.restart();
                             self.differ(request, "the library's program ended".to_string());
+                            self.endings += 1;
+                            if self.endings == ENDINGS {
+                                self.report();
+                                println!("the library's program ended {ENDINGS} times: no more");
+                                std::process::exit(1);
+                            }
                         }
                     }
                 }
@@ -217,11 +228,19 @@ fn main() {
             "--seconds" => seconds = number().unwrap_or_else(|| fail("--seconds wants a number")),
             "--seed" => seed = number().unwrap_or_else(|| fail("--seed wants a number")),
             "--library" => command = words.by_ref().collect(),
-            _ => fail("usage: compare --seconds N --seed S --library COMMAND..."),
+            _ => fail("usage: compare [--seconds N] [--seed S] [--library COMMAND...]"),
         }
     }
     if command.is_empty() {
-        fail("--library names the program of compare/answer.c: tests/run does");
+        let program = "target/tests/answer";
+        if !std::path::Path::new(program).is_file() {
+            fail(&format!("there is no {program}; tests/run builds it"));
+        }
+        // The library is x86-64 code.
+        if cfg!(not(target_arch = "x86_64")) {
+            command.extend(["qemu-x86_64", "-L", "/usr/x86_64-linux-gnu"].map(String::from));
+        }
+        command.push(program.to_string());
     }
     println!("seed {seed}");
 
@@ -236,6 +255,7 @@ fn main() {
         library,
         waiting: Vec::new(),
         found: (0..25).map(|_| Found::default()).collect(),
+        endings: 0,
     };
 
     inputs::limits(&mut |request| compare.add(request));
