@@ -1,0 +1,6 @@
+pub mod Turn
+pub mod Divide
+pub mod Whole
+pub mod Steps
+pub mod Answer
+pub mod Points

@@ -1,0 +1,161 @@
+-- The steps of `floor_root` and of `whole_root` as facts on numbers. Assumes nothing.
+use mathlib.Core.Path.{_≡_, refl, sym, ap, _∙_, subst}
+use Prim.Native.Nat.{ℕ, zero, suc, _+_, _-_, _*_, _/_, _%_, _^_, _≤_, _<_}
+use native.Mathlib.Nat.{mul-suc, suc-mul, add-mul, mul-add, mul-assoc, mul-comm, mul-left-comm, mul-mul-mul-comm, mul-one, mul-le-mul, mul-le-mul-left, mul-le-mul-right, mul-lt-mul-of-pos-right, mul-pos, le-of-mul-le-mul-right, le-trans, le-of-eq, le-of-lt, lt-of-lt-of-le, lt-of-le-of-lt, lt-of-not-le, not-le-of-lt, div-add-mod', mod-lt, div-mul-le-self, div-lt-iff-lt-mul, mod-eq-of-lt, pow-suc}
+use native.Mathlib.Numerals.{add-one}
+use native.Mathlib.Omega.{arith}
+use lib.Dec.{T, lit≤, lit<}
+use lib.Pow.{pow-add, pow-pos, pow-mono, shl-lt, shl-exact}
+use lib.Count.{leadingZeros, leading-top}
+use Rattle.root.specs.Root.{isqrt}
+use Rattle.root.specs.Isqrt.{IsRoot, sq-suc, sq-two, root-le, isqrt-is}
+use Rattle.root.proofs.Turn.{Turn}
+
+-- ---- the guess mended
+pub pos-of-sq : (n p : ℕ) → n < p * p → 1 ≤ p
+pos-of-sq n zero h = omega arith
+pos-of-sq n (suc p) h = omega arith
+
+sq-next : (p : ℕ) → (p + 1) * (p + 1) ≡ p * p + 2 * p + 1
+sq-next p = ap (λ (x : ℕ). x * x) (add-one p) ∙ sq-suc p
+
+pub next : (n p : ℕ) → n < 18446744073709551616 → p * p ≤ n → p * 2 < n - p * p → (p + 1 ≤ 4294967295) × ((p + 1) * (p + 1) ≤ n)
+next n p b l h =
+    let e = sq-next p in
+    let k : (p + 1) * (p + 1) ≤ n = omega arith in
+    (root-le n (p + 1) 4294967295 k (lt-of-lt-of-le b (lit≤ tt)), k)
+
+pub mended : (n p : ℕ) → p * p ≤ n → n - p * p ≤ p * 2 → IsRoot n p
+mended n p l h = let e = sq-suc p in record { low = l; high = omega arith }
+
+-- ---- n moved up
+pub moved : (n : ℕ) → 1 ≤ n → n < 18446744073709551616 → (4611686018427387904 ≤ n * 2 ^ (leadingZeros 64 n / 2 * 2)) × (n * 2 ^ (leadingZeros 64 n / 2 * 2) < 18446744073709551616)
+moved n h b = go (leading-top 64 n h b)
+  where
+    go : (j : ℕ) × (leadingZeros 64 n + suc j ≡ 64) × (2 ^ j ≤ n) × (n < 2 ^ suc j) → (4611686018427387904 ≤ n * 2 ^ (leadingZeros 64 n / 2 * 2)) × (n * 2 ^ (leadingZeros 64 n / 2 * 2) < 18446744073709551616)
+    go (j, e, l, u) =
+        let k = leadingZeros 64 n / 2 * 2 in
+        let x : 62 ≤ j + k = omega arith in
+        let y : suc j + k ≤ 64 = omega arith in
+        (le-trans (pow-mono x) (le-trans (le-of-eq (pow-add 2 j k)) (mul-le-mul-right (2 ^ k) l)), lt-of-lt-of-le (shl-lt (suc j) k u) (pow-mono y))
+
+-- ---- from 32 digits to 54
+sum-square : (a t : ℕ) → (a + t) * (a + t) ≡ a * a + 2 * (a * t) + t * t
+sum-square a t =
+    let x = add-mul a t (a + t) in
+    let y = mul-add a a t in
+    let z = mul-add t a t in
+    let w = mul-comm t a in
+    omega arith
+
+scaled-square : (p K : ℕ) → p * K * (p * K) ≡ p * p * (K * K)
+scaled-square p K = mul-mul-mul-comm p K p K
+
+-- what the two products with p come to
+cross-one : (p t : ℕ) → t * (p * 2) ≡ 2 * (p * t)
+cross-one p t = sym (mul-assoc t p 2) ∙ mul-comm (t * p) 2 ∙ ap (λ (x : ℕ). 2 * x) (mul-comm t p)
+
+cross-two : (p t : ℕ) → p * 4194304 * t ≡ 4194304 * (p * t)
+cross-two p t = ap (λ (x : ℕ). x * t) (mul-comm p 4194304) ∙ mul-assoc 4194304 p t
+
+-- t is the quotient of what is left of m, moved up, by 2 p, and u the remainder
+pub record Fine (m p t u : ℕ) : Type 0 where
+  pub root : IsRoot m p
+  pub least : 2147483648 ≤ p
+  pub most : p ≤ 4294967295
+  pub sum : t * (p * 2) + u ≡ (m - p * p) * 4194304
+  pub rest : u < p * 2
+  pub small : t ≤ 4194304
+
+pub left-le : (m p : ℕ) → IsRoot m p → m - p * p ≤ p * 2
+left-le m p r = let sq = sq-suc p in omega (arith, r .high)
+
+pub fine : (m p : ℕ) → 4611686018427387904 ≤ m → m < 18446744073709551616 → IsRoot m p → Fine m p ((m - p * p) * 4194304 / (p * 2)) ((m - p * p) * 4194304 - (m - p * p) * 4194304 / (p * 2) * (p * 2))
+fine m p l h r =
+    let a = (m - p * p) * 4194304 in
+    let b = p * 2 in
+    let low = root-le m 2147483648 p l (r .high) in
+    let high = root-le m p 4294967295 (r .low) (lt-of-lt-of-le h (lit≤ tt)) in
+    let pos : 0 < b = omega arith in
+    let e = div-add-mod' a b in
+    let f = mod-lt a pos in
+    let sq = sq-suc p in
+    let left : m - p * p ≤ p * 2 = omega (arith, r .high) in
+    let bound : a ≤ 4194304 * b = omega arith in
+    record {
+      root = r;
+      least = low;
+      most = high;
+      sum = omega arith;
+      rest = omega arith;
+      small = le-of-mul-le-mul-right (le-trans (div-mul-le-self a b) bound) pos;
+    }
+
+module _ {m p t u : ℕ} (f : Fine m p t u) where
+  squares : (p * 4194304 + t) * (p * 4194304 + t) ≡ p * p * 17592186044416 + 8388608 * (p * t) + t * t
+  squares = let e = sum-square (p * 4194304) t in let g = scaled-square p 4194304 in let h = cross-two p t in omega arith
+
+  whole : m * 17592186044416 ≡ p * p * 17592186044416 + 8388608 * (p * t) + u * 4194304
+  whole = let e = cross-one p t in omega (arith, f .sum, f .root .low)
+
+  pub fine-even : t * t ≤ u * 4194304 → IsRoot (m * 17592186044416) (p * 4194304 + t)
+  fine-even h = let a = squares in let b = whole in let e = sq-suc (p * 4194304 + t) in record { low = omega arith; high = omega (arith, f .rest) }
+
+  pub fine-down : u * 4194304 < t * t → IsRoot (m * 17592186044416) (p * 4194304 + t - 1)
+  fine-down h =
+      let a = squares in
+      let b = whole in
+      let q = p * 4194304 + t in
+      let e = sq-suc (q - 1) in
+      let g : suc (q - 1) ≡ q = omega (arith, f .least) in
+      let k : suc (q - 1) * suc (q - 1) ≡ q * q = ap (λ (x : ℕ). x * x) g in
+      let l : t * t ≤ 17592186044416 = mul-le-mul (f .small) (f .small) in
+      record { low = omega (arith, f .least); high = omega arith }
+
+-- ---- the root at 54 digits is what the answer is made of
+module _ (n q d : ℕ) (j : ℕ) (power : d ≡ 2 ^ j) (first : 1 ≤ n) (r : IsRoot (n * (d * d)) q) (top : q < 18014398509481984) where
+  d-pos : 0 < d
+  d-pos = subst (λ (x : ℕ). 0 < x) (sym power) (pow-pos j)
+
+  pub turn-of : Turn n (isqrt n) q (n * (d * d) - q * q) d
+  turn-of =
+      let p = isqrt n in
+      let i = isqrt-is n in
+      let e = sq-suc q in
+      let pp : 1 ≤ p = root-le n 1 p first (i .high) in
+      let above : p * d ≤ q = root-le (n * (d * d)) (p * d) q (le-trans (le-of-eq (scaled-square p d)) (mul-le-mul-right (d * d) (i .low))) (r .high) in
+      let below : q < suc p * d = sq-lt-of q (suc p * d) (lt-of-le-of-lt (r .low) (lt-of-lt-of-le (mul-lt-mul-of-pos-right (i .high) (mul-pos d-pos d-pos)) (le-of-eq (sym (scaled-square (suc p) d))))) in
+      let one : 1 * d ≤ p * d = mul-le-mul-right d pp in
+      record {
+        j = j;
+        power = power;
+        sum = omega (arith, r .low);
+        rest = omega (arith, r .low, r .high);
+        above = above;
+        below = below;
+        root = i;
+        positive = pp;
+        room = omega arith;
+        top = top;
+      }
+    where
+      sq-lt-of : (a b : ℕ) → a * a < b * b → a < b
+      sq-lt-of a b h = lt-of-not-le (λ (g : b ≤ a). not-le-of-lt h (mul-le-mul g g))
+
+-- n moved up by 2 s digits and then by 44 more is n times the square of d = 2 ^ (s + 22)
+pub moved-square : (n s : ℕ) → n * 2 ^ (s * 2) * 17592186044416 ≡ n * (4194304 * 2 ^ s * (4194304 * 2 ^ s))
+moved-square n s =
+    mul-assoc n (2 ^ (s * 2)) 17592186044416
+    ∙ ap (λ (x : ℕ). n * x) (mul-comm (2 ^ (s * 2)) 17592186044416 ∙ ap (λ (x : ℕ). 17592186044416 * x) (ap (λ (x : ℕ). 2 ^ x) (twice s) ∙ pow-add 2 s s) ∙ sym (mul-mul-mul-comm 4194304 (2 ^ s) 4194304 (2 ^ s)))
+  where
+    twice : (s : ℕ) → s * 2 ≡ s + s
+    twice s = omega arith
+
+pub power-of : (s : ℕ) → 4194304 * 2 ^ s ≡ 2 ^ (22 + s)
+power-of s = sym (pow-add 2 22 s)
+
+pub q-least : (m q : ℕ) → 4611686018427387904 ≤ m → IsRoot (m * 17592186044416) q → 9007199254740992 ≤ q
+q-least m q h r = root-le (m * 17592186044416) 9007199254740992 q (omega arith) (r .high)
+
+pub q-most : (m q : ℕ) → m < 18446744073709551616 → IsRoot (m * 17592186044416) q → q < 18014398509481984
+q-most m q h r = let a = root-le (m * 17592186044416) q 18014398509481983 (r .low) (omega arith) in omega arith

@@ -1,0 +1,66 @@
+-- `bitsOf` of what `square_root` answers. A NaN's pattern is tested first, and an answer is never a NaN (`of-number`), so both turns between f64 and bits are defined.
+use mathlib.Core.Path.{_≡_, refl, sym, ap, _∙_, subst}
+use mathlib.Core.Bool.{Bool, true, not}
+use Prim.Native.Nat.{ℕ}
+use borrow.Author.Needs.{needs}
+use lib.Dec.{T}
+use lib.Ieee.{Float, nan, inf, fin, binary64, ofBits, isNan, nanBits}
+use lib.Ieee.Bits.{nanBits-is}
+use Rattle.root.specs.Root.{rootOf, rootBitsOf, bitsOf}
+use Rattle.root.specs.Number.{of-number}
+use Rattle.root.proofs.square_root_bits.Statement.{statement}
+use Rattle.root.proofs.square_root_bits.Tie as tie
+
+is-nan : (x : Float) → isNan x ≡ true → x ≡ nan
+unfolding isNan
+is-nan nan e = refl
+is-nan (inf s) e = cc
+is-nan (fin s m k) e = cc
+
+is-nan-requires : tie.Need-is-nan-requires
+is-nan-requires c κs = search needs
+
+returns : tie.Need-returns
+unfolding rootBitsOf rootOf
+returns c =
+    let b = c .before .before .args .bits in
+    sym (ap (λ (x : Float). bitsOf (rootOf x)) (is-nan (ofBits binary64 b) (sym (nanBits-is binary64 b) ∙ sym (c .before .is-nan .ensures) ∙ c .if1 .taken)))
+
+float-from-bits-square-root : tie.Need-float-from-bits-square-root
+float-from-bits-square-root c = rw (sym (c .before .is-nan .ensures) ∙ c .if1 .left) tt
+
+square-root-requires : tie.Need-square-root-requires
+square-root-requires c κs = search needs
+
+enum-known-r : tie.Need-enum-known-r
+enum-known-r c = search needs
+
+float-to-bits-t9 : tie.Need-float-to-bits-t9
+float-to-bits-t9 c =
+    of-number (ofBits binary64 (c .before .before .before .before .before .before .args .bits)) (c .before .r .given .0 .0)
+    (sym (c .before .before .before .square-root .ensures) ∙ c .before .r .given .1)
+
+enum-known-why : tie.Need-enum-known-why
+enum-known-why c = search needs
+
+returns-2 : tie.Need-returns-2
+unfolding rootBitsOf
+returns-2 c = ap bitsOf (sym (c .before .r .given .1) ∙ c .before .before .before .square-root .ensures)
+
+returns-3 : tie.Need-returns-3
+unfolding rootBitsOf
+returns-3 c = ap bitsOf (sym (c .before .why .given .1) ∙ c .before .before .before .square-root .ensures)
+
+pub square-root-bits-spec : {M : Type 1} → statement M
+square-root-bits-spec =
+    tie.close
+    (tie.spec
+    is-nan-requires
+    returns
+    float-from-bits-square-root
+    square-root-requires
+    enum-known-r
+    float-to-bits-t9
+    enum-known-why
+    returns-2
+    returns-3)

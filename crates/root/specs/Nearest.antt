@@ -1,0 +1,42 @@
+-- No f64 is nearer to the true root than the answer of `square_root`: "correctly rounded, to nearest even", in words of floats. Assumes nothing.
+use mathlib.Core.Path.{_≡_, refl, sym, _∙_, subst}
+use mathlib.Core.Bool.{false}
+use Prim.Native.Nat.{ℕ, _+_, _*_, _≤_, _<_}
+use lib.IntN.{pos}
+use lib.Dec.{T}
+use lib.Ieee.{Float, nan, inf, fin, binary64, fits}
+use lib.Ieee.Exact.{HasValue}
+use lib.Ieee.Positive.{num, den}
+use lib.Ieee.Scale.{finite}
+use Rattle.root.specs.declared.Root.the-variants.{Of}
+use Rattle.root.specs.Root.{rootOf, rootWhole}
+use Rattle.root.specs.Answers.{answers, answered}
+use Rattle.root.specs.Halfway.{middle-above, middle-below}
+
+-- r is nearer to √n than any y of another size: where y is above r, √n < (r + y) / 2, and where y is below r, (r + y) / 2 < √n. Each is said of the squares, times 4
+-- and the square of the denominators' product. A value is read without its sign: `num` / `den`.
+pub record Nearer (n : ℕ) (r y : Float) : Type 0 where
+  pub above : num r * den y < num y * den r → 4 * (n * (den r * den y * (den r * den y))) < (num r * den y + num y * den r) * (num r * den y + num y * den r)
+  pub below : num y * den r < num r * den y → (num r * den y + num y * den r) * (num r * den y + num y * den r) < 4 * (n * (den r * den y * (den r * den y)))
+
+-- The same of `rootWhole`, for every whole number from 1 to 2 ^ 64, be it an f64 or not.
+pub whole-nearest : (n : ℕ) → 1 ≤ n → n ≤ 18446744073709551616 → (y : Float) → T (fits binary64 y) → T (finite y) → Nearer n (rootWhole n) y
+whole-nearest n first last nan f p = absurd p
+whole-nearest n first last (inf s) f p = absurd p
+whole-nearest n first last (fin s m e) f p = record { above = middle-above n first last s m e f; below = middle-below n first last s m e f }
+
+-- THE THEOREM. Where x is the whole number n, at least 1, and the answer is r, then r is nearer to √n than every other finite f64 y. Both comparisons are strict, so no
+-- root is a tie, and "to nearest even" needs no case of its own. Of a y below zero, -y is nearer than y, and r is nearer than -y. That x has an answer is `Answers.answers`.
+pub root-nearest : (x r : Float) (n : ℕ) → rootOf x ≡ Of r → HasValue x false n 1 → 1 ≤ n → (y : Float) → T (fits binary64 y) → T (finite y) → Nearer n r y
+root-nearest x r n a h first y f p =
+    let last = answered x r n a h in
+    let e : rootWhole n ≡ r = same-answer (sym (answers x n h last) ∙ a) in
+    subst (λ (z : Float). Nearer n z y) e (whole-nearest n first last y f p)
+  where
+    same-answer : {u v : Float} → Of u ≡ Of v → u ≡ v
+    same-answer e = cc
+
+-- The root of +0 is +0.
+pub root-zero : rootOf (fin false 0 (pos 0)) ≡ Of (fin false 0 (pos 0))
+unfolding rootOf
+root-zero = refl
