@@ -1,0 +1,244 @@
+-- Rounding of a number above zero, N / D as a fraction: its double is exact, and half of one more than the double's whole part is the nearest whole number. Assumes nothing.
+use mathlib.Core.Path.{_≡_, refl, sym, ap, _∙_, subst}
+use Prim.Native.Nat.{ℕ, zero, suc, _+_, _-_, _*_, _/_, _%_, _^_, _≤_, _<_, min}
+use native.Mathlib.Nat.{le-trans, le-of-eq, mul-one, mul-assoc, mul-comm, mul-left-comm, mul-pos, zero-mul, div-div-eq-div-mul, add-div-right, div-lt-iff-lt-mul, lt-of-lt-of-le, le-of-lt, lt-of-not-le, not-le-of-lt, sub-add-cancel, suc-mul, zero-lt-suc}
+use native.Mathlib.Omega.{arith}
+use mathlib.Core.Bool.{Bool, true, false, _&&_, true≢false, false≢true}
+use lib.IntN.{ℤ, pos, negsuc}
+use lib.Dec.{T, leb, ltb, eqb, leb→le, ltb→lt, lt→ltb, lit<, lit≤}
+use borrow.Author.Tests.{ltb-false}
+use lib.Pow.{pow-add, pow-pos, pow-mono, pow-lt, shl-lt}
+use lib.Ieee.{Float, nan, inf, fin, binary64, up, down, round, mul, lt, fits, toUnsigned, ofInt}
+use lib.Ieee.Fits.{down-pos, and-l, and-r, round-fits}
+use lib.Ieee.Exact.{HasValue, round-exact}
+use lib.Ieee.Nearest.{div-same}
+use lib.Ieee.Back.{round-whole, whole-unique}
+use Rattle.float.specs.Round.{wholeOf, wholeSize, roundAway}
+
+pub so : {b : Bool} → b ≡ true → T b
+so e = subst T (sym e) tt
+
+abbrev pub nought : Float
+nought = fin false 0 (pos 0)
+
+-- 2 ^ 52, from which every number is whole
+abbrev pub coarse : Float
+coarse = fin false 1 (pos 52)
+
+-- ---- what `fits` says of a number that is not zero
+module _ (s : Bool) (m : ℕ) (e : ℤ) (t : T (fits binary64 (fin s (suc m) e))) where
+  pub digits-below : suc m < 9007199254740992
+  unfolding fits
+  digits-below =
+      ltb→lt (suc m) 9007199254740992 (and-r (eqb (suc m % 2) 1) (ltb (suc m) 9007199254740992) (and-l (eqb (suc m % 2) 1 && ltb (suc m) 9007199254740992) (leb (down e) (2 ^ 1074))
+      (and-l (eqb (suc m % 2) 1 && ltb (suc m) 9007199254740992 && leb (down e) (2 ^ 1074)) (ltb (suc m * up e) (2 ^ 1024 * down e)) t)))
+
+  pub down-within : down e ≤ 2 ^ 1074
+  unfolding fits
+  down-within =
+      leb→le (down e) (2 ^ 1074) (and-r (eqb (suc m % 2) 1 && ltb (suc m) 9007199254740992) (leb (down e) (2 ^ 1074))
+      (and-l (eqb (suc m % 2) 1 && ltb (suc m) 9007199254740992 && leb (down e) (2 ^ 1074)) (ltb (suc m * up e) (2 ^ 1024 * down e)) t))
+
+  pub under-top : suc m * up e < 2 ^ 1024 * down e
+  unfolding fits
+  under-top =
+      ltb→lt (suc m * up e) (2 ^ 1024 * down e) (and-r (eqb (suc m % 2) 1 && ltb (suc m) 9007199254740992 && leb (down e) (2 ^ 1074)) (ltb (suc m * up e) (2 ^ 1024 * down e)) t)
+
+pub exponent-within : (k : ℕ) → 2 ^ suc k ≤ 2 ^ 1074 → suc k ≤ 1074
+exponent-within k l = lt-of-not-le (λ (g : 1074 ≤ k). not-le-of-lt (pow-lt (below g)) l)
+  where
+    below : 1074 ≤ k → 1074 < suc k
+    below g = omega arith
+
+-- ---- the double is exact
+-- the double of N / D, as `mul` writes it
+abbrev twice : ℕ → ℤ → Float
+twice m e = round binary64 false (m * up e * 2) (down e * 1)
+
+twice-value : (m : ℕ) (e : ℤ) → T (fits binary64 (fin false (suc m) e)) → suc m * up e < 4503599627370496 * down e → HasValue (twice (suc m) e) false (suc m * up e * 2) (down e * 1)
+twice-value m (pos k) t h =
+    let n = suc m in
+    round-exact binary64 false (n * 2 ^ k * 2) 1 n (k + 1075) (lit< tt) (digits-below false m (pos k) t)
+    (subst (λ (x : ℕ). x < 2 ^ 2098) (mul-assoc n (2 ^ k) (2 ^ 1075) ∙ ap (λ (x : ℕ). n * x) (sym (pow-add 2 k 1075)))
+    (lt-of-lt-of-le (shl-lt {a = n * 2 ^ k} 52 1075 (subst (λ (x : ℕ). n * 2 ^ k < x) (mul-one 4503599627370496) h)) (pow-mono {i = 1127} {j = 2098} (lit≤ tt))))
+    (mul-assoc (n * 2 ^ k) 2 (2 ^ 1074) ∙ mul-assoc n (2 ^ k) (2 ^ 1075) ∙ ap (λ (x : ℕ). n * x) (sym (pow-add 2 k 1075)) ∙ sym (mul-one (n * 2 ^ (k + 1075))))
+twice-value m (negsuc k) t h =
+    let n = suc m in
+    let s : suc k ≤ 1075 = more (exponent-within k (down-within false m (negsuc k) t)) in
+    round-exact binary64 false (n * 1 * 2) (2 ^ suc k * 1) n (1075 - suc k) (mul-pos (pow-pos (suc k)) (lit< tt)) (digits-below false m (negsuc k) t)
+    (lt-of-lt-of-le (shl-lt 53 (1075 - suc k) (digits-below false m (negsuc k) t)) (pow-mono (room (suc k))))
+    (mul-assoc (n * 1) 2 (2 ^ 1074)
+    ∙ ap (λ (x : ℕ). x * 2 ^ 1075) (mul-one n)
+    ∙ ap (λ (x : ℕ). n * x) (ap (λ (x : ℕ). 2 ^ x) (sym (sub-add-cancel s)) ∙ pow-add 2 (1075 - suc k) (suc k))
+    ∙ sym (mul-assoc n (2 ^ (1075 - suc k)) (2 ^ suc k))
+    ∙ ap (λ (x : ℕ). n * 2 ^ (1075 - suc k) * x) (sym (mul-one (2 ^ suc k))))
+  where
+    more : suc k ≤ 1074 → suc k ≤ 1075
+    more l = omega arith
+
+    room : (j : ℕ) → 53 + (1075 - j) ≤ 2098
+    room j = omega arith
+
+-- ---- what a cast to an integer asks and gives, of a value p / q below 2 ^ 64
+module _ (p q : ℕ) (some : 0 < q) (below : p / q < 18446744073709551616) where
+  pub cast-above : (z : Float) → HasValue z false p q → T (lt (fin true 1 (pos 0)) z)
+  unfolding lt
+  cast-above (fin true n d) v = absurd (true≢false (v .0))
+  cast-above (fin false n d) v = lt→ltb 0 (1 * down d + n * up d * 1) (more (down d) (n * up d * 1) (down-pos d))
+    where
+      more : (d b : ℕ) → 0 < d → 0 < 1 * d + b
+      more d b h = omega arith
+
+  pub cast-below : (z : Float) → HasValue z false p q → T (lt z (fin false 1 (pos 64)))
+  unfolding lt
+  cast-below (fin true n d) v = absurd (true≢false (v .0))
+  cast-below (fin false n d) v =
+      lt→ltb (n * up d * 1) (18446744073709551616 * down d)
+      (subst (λ (x : ℕ). x < 18446744073709551616 * down d) (sym (mul-one (n * up d)))
+      (div-lt-iff-lt-mul (down-pos d) .0 (subst (λ (x : ℕ). x < 18446744073709551616) (sym (div-same (n * up d) (down d) p q (down-pos d) some (v .1))) below)))
+
+  pub cast-is : (z : Float) → HasValue z false p q → toUnsigned 64 z ≡ p / q
+  unfolding toUnsigned
+  cast-is (fin true n d) v = absurd (true≢false (v .0))
+  cast-is (fin false n d) v = ap (λ (x : ℕ). min x 18446744073709551615) (div-same (n * up d) (down d) p q (down-pos d) some (v .1)) ∙ uncapped (p / q) below
+    where
+      uncapped : (a : ℕ) → a < 18446744073709551616 → min a 18446744073709551615 ≡ a
+      uncapped a h = omega arith
+
+-- ---- halves
+-- half of one more than the whole part of the double is the whole part of N / D + 1 / 2
+pub halves : (N D : ℕ) → 0 < D → (N * 2 / D + 1) / 2 ≡ (2 * N + D) / (2 * D)
+halves N D h =
+    ap (λ (x : ℕ). x / 2) (sym (add-div-right (N * 2) h))
+    ∙ div-div-eq-div-mul (N * 2 + D) D 2
+    ∙ ap (λ (x : ℕ). (x + D) / (D * 2)) (mul-comm N 2)
+    ∙ ap (λ (x : ℕ). (2 * N + D) / x) (mul-comm D 2)
+
+-- a number up to c rounds to at most c
+pub within : (N D c : ℕ) → 0 < D → N ≤ c * D → (2 * N + D) / (2 * D) ≤ c
+within N D c h l = less ((2 * N + D) / (2 * D)) c (div-lt-iff-lt-mul (double h) .1 (subst (λ (x : ℕ). 2 * N + D < x) (sym (scale c D)) (room N D (c * D) h l)))
+  where
+    double : 0 < D → 0 < 2 * D
+    double h = omega arith
+
+    scale : (c D : ℕ) → suc c * (2 * D) ≡ 2 * (c * D) + 2 * D
+    scale c D = let a = suc-mul c (2 * D) in let b = mul-left-comm c 2 D in omega arith
+
+    room : (N D P : ℕ) → 0 < D → N ≤ P → 2 * N + D < 2 * P + 2 * D
+    room N D P h l = omega arith
+
+    less : (a c : ℕ) → a < suc c → a ≤ c
+    less a c h = omega arith
+
+-- ---- a number above zero and below 2 ^ 52, doubled and cut
+pub record Doubled (x : Float) (z : Float) : Type 0 where
+  pub above : T (lt (fin true 1 (pos 0)) z)
+  pub below : T (lt z (fin false 1 (pos 64)))
+  pub small : toUnsigned 64 z < 9007199254740992
+  pub half : (toUnsigned 64 z + 1) / 2 ≡ wholeSize x
+
+pub doubled : (x : Float) → T (fits binary64 x) → lt nought x ≡ true → lt x coarse ≡ true → Doubled x (mul binary64 x (fin false 1 (pos 1)))
+unfolding lt mul wholeSize
+doubled nan t a b = absurd (false≢true a)
+doubled (inf true) t a b = absurd (false≢true a)
+doubled (inf false) t a b = absurd (false≢true b)
+doubled (fin true m e) t a b = absurd (false≢true a)
+doubled (fin false zero e) t a b = absurd (none (down e) (up e) (ltb→lt (0 * down e) (0 * up e * 1) (so a)))
+  where
+    none : (d u : ℕ) → 0 * d < 0 * u * 1 → ⊥
+    none d u h = omega arith
+doubled (fin false (suc m) e) t a b =
+    let N = suc m * up e in
+    let D = down e in
+    let h : N < 4503599627370496 * D = subst (λ (x : ℕ). x < 4503599627370496 * D) (mul-one N) (ltb→lt (N * 1) (4503599627370496 * D) (so b)) in
+    let some : 0 < D * 1 = mul-pos (down-pos e) (lit< tt) in
+    let cut : N * 2 / (D * 1) < 9007199254740992 = div-lt-iff-lt-mul some .1 (twofold N D h) in
+    let below : N * 2 / (D * 1) < 18446744073709551616 = more (N * 2 / (D * 1)) cut in
+    let z = twice (suc m) e in
+    let v = twice-value m e t h in
+    let is : toUnsigned 64 z ≡ N * 2 / (D * 1) = cast-is (N * 2) (D * 1) some below z v in
+    record {
+      above = cast-above (N * 2) (D * 1) some below z v;
+      below = cast-below (N * 2) (D * 1) some below z v;
+      small = subst (λ (x : ℕ). x < 9007199254740992) (sym is) cut;
+      half =
+          ap (λ (x : ℕ). (x + 1) / 2) (is ∙ ap (λ (x : ℕ). N * 2 / x) (mul-one D))
+          ∙ halves N D (down-pos e)
+          ∙ ap (λ (x : ℕ). (x + D) / (2 * D)) (sym (mul-assoc 2 (suc m) (up e)));
+    }
+  where
+    twofold : (N D : ℕ) → N < 4503599627370496 * D → N * 2 < 9007199254740992 * (D * 1)
+    twofold N D h = omega arith
+
+    more : (a : ℕ) → a < 9007199254740992 → a < 18446744073709551616
+    more a h = omega arith
+
+-- the nearest whole number to a number up to c is up to c, and as a float it is the rounded number
+pub size-within : (m : ℕ) (e : ℤ) (c : ℕ) → m * up e ≤ c * down e → wholeOf m e ≤ c
+size-within m e c h = subst (λ (x : ℕ). (x + down e) / (2 * down e) ≤ c) (sym (mul-assoc 2 m (up e))) (within (m * up e) (down e) c (down-pos e) h)
+
+pub record Whole (x : Float) : Type 0 where
+  pub within : wholeSize x ≤ 4503599627370496
+  pub float : ofInt binary64 (pos (wholeSize x)) ≡ roundAway x
+
+pub whole : (x : Float) → lt nought x ≡ true → lt x coarse ≡ true → Whole x
+unfolding lt wholeSize ofInt roundAway
+whole nan a b = absurd (false≢true a)
+whole (inf true) a b = absurd (false≢true a)
+whole (inf false) a b = absurd (false≢true b)
+whole (fin true m e) a b = absurd (false≢true a)
+whole (fin false m e) a b = record {
+  within = size-within m e 4503599627370496 (le-of-lt (subst (λ (x : ℕ). x < 4503599627370496 * down e) (mul-one (m * up e)) (ltb→lt (m * up e * 1) (4503599627370496 * down e) (so b))));
+  float = refl;
+}
+
+-- ---- what is whole already stays
+module _ (s : Bool) (m k : ℕ) (t : T (fits binary64 (fin s (suc m) (pos k)))) where
+  itself : wholeOf (suc m) (pos k) ≡ suc m * 2 ^ k
+  itself = ap (λ (x : ℕ). (x + 1) / 2) (mul-assoc 2 (suc m) (2 ^ k)) ∙ cut (suc m * 2 ^ k)
+    where
+      cut : (P : ℕ) → (2 * P + 1) / 2 ≡ P
+      cut P = omega arith
+
+  rounded-value : HasValue (round binary64 s (suc m * 2 ^ k) 1) s (suc m * 2 ^ k) 1
+  rounded-value =
+      let n = suc m in
+      let scaled : n * 2 ^ k * 2 ^ 1074 ≡ n * 2 ^ (k + 1074) = mul-assoc n (2 ^ k) (2 ^ 1074) ∙ ap (λ (x : ℕ). n * x) (sym (pow-add 2 k 1074)) in
+      round-exact binary64 s (n * 2 ^ k) 1 n (k + 1074) (lit< tt) (digits-below s m (pos k) t)
+      (subst (λ (x : ℕ). x < 2 ^ 2098) scaled (shl-lt {a = n * 2 ^ k} 1024 1074 (subst (λ (x : ℕ). n * 2 ^ k < x) (mul-one (2 ^ 1024)) (under-top s m (pos k) t))))
+      (scaled ∙ sym (mul-one (n * 2 ^ (k + 1074))))
+
+  pub whole-stays : roundAway (fin s (suc m) (pos k)) ≡ fin s (suc m) (pos k)
+  unfolding roundAway
+  whole-stays =
+      let n = suc m in
+      ap (λ (x : ℕ). round binary64 s x 1) itself
+      ∙ whole-unique binary64 (round binary64 s (n * 2 ^ k) 1) (fin s n (pos k)) s (n * 2 ^ k) (round-fits binary64 s (n * 2 ^ k) 1) t rounded-value (refl, mul-one (n * 2 ^ k) ∙ sym (mul-one (n * 2 ^ k)))
+
+pub large-stays : (x : Float) → T (fits binary64 x) → lt nought x ≡ true → lt x coarse ≡ false → x ≡ roundAway x
+unfolding lt roundAway
+large-stays nan t a b = absurd (false≢true a)
+large-stays (inf s) t a b = refl
+large-stays (fin true m e) t a b = absurd (false≢true a)
+large-stays (fin false zero e) t a b = absurd (none (down e) (up e) (ltb→lt (0 * down e) (0 * up e * 1) (so a)))
+  where
+    none : (d u : ℕ) → 0 * d < 0 * u * 1 → ⊥
+    none d u h = omega arith
+large-stays (fin false (suc m) (pos k)) t a b = sym (whole-stays false m k t)
+large-stays (fin false (suc m) (negsuc k)) t a b =
+    absurd (few (2 ^ suc k) (digits-below false m (negsuc k) t) (pow-mono {i = 1} {j = suc k} (zero-lt-suc k)) (ltb-false (suc m * 1 * 1) (4503599627370496 * 2 ^ suc k) b))
+  where
+    few : (P : ℕ) → suc m < 9007199254740992 → 2 ≤ P → 4503599627370496 * P ≤ suc m * 1 * 1 → ⊥
+    few P a b c = omega arith
+
+-- ---- the rounding of a number is exact: it has the nearest whole number for its value
+pub away-value : (s : Bool) (m : ℕ) (e : ℤ) → T (fits binary64 (fin s m e)) → HasValue (roundAway (fin s m e)) s (wholeOf m e) 1
+unfolding roundAway
+away-value s zero e t = round-whole binary64 s (wholeOf 0 e) (le-trans (size-within 0 e 0 (le-of-eq (zero-mul (up e) ∙ sym (zero-mul (down e))))) (lit≤ tt))
+away-value s (suc m) (pos k) t = subst (λ (n : ℕ). HasValue (round binary64 s n 1) s n 1) (sym (itself s m k t)) (rounded-value s m k t)
+away-value s (suc m) (negsuc k) t =
+    round-whole binary64 s (wholeOf (suc m) (negsuc k))
+    (size-within (suc m) (negsuc k) 9007199254740992 (less (2 ^ suc k) (digits-below s m (negsuc k) t) (pow-pos (suc k))))
+  where
+    less : (P : ℕ) → suc m < 9007199254740992 → 0 < P → suc m * 1 ≤ 9007199254740992 * P
+    less P a b = omega arith

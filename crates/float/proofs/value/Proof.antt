@@ -1,0 +1,14 @@
+-- `float::value` meets its contract. Assumes nothing.
+use borrow.Author.Needs.{needs}
+use Rattle.float.proofs.Nans.{fails}
+use Rattle.float.proofs.value.Statement.{statement}
+use Rattle.float.proofs.value.Tie as tie
+
+float-from-bits-result : tie.Need-float-from-bits-result
+float-from-bits-result c = fails (c .pre)
+
+returns : tie.Need-returns
+returns c = search needs
+
+pub value-spec : {M : Type 1} → statement M
+value-spec = tie.close (tie.spec float-from-bits-result returns)
