@@ -1,0 +1,199 @@
+-- "Cell and lattice" of the scope document, as far as it speaks of coordinates, with the tables and the parent of lattice.rs. A coordinate is an integer; that
+-- every sum here fits 32 bits is what the ranges say. Each call that takes a point begins with its parity, as LatticeCoord::new does. Definitions only. Assumes nothing.
+use mathlib.Core.Bool.{Bool, true, false, not, cond, _&&_, Bool·beq}
+use mathlib.Core.List.{List, [], _∷_, map}
+use Prim.Native.Nat.{ℕ, _+_, _%_}
+use lib.Dec.{eqb, leb}
+use lib.IntN.{ℤ, pos, negsuc, natAbs, _+ℤ_, _-ℤ_}
+use lib.Signed.{leZ, shrZ}
+use lib.ListN.{replicate}
+use mir.Syntax.{w32}
+use mir.Val.{SFits}
+use Rattle.refusal.specs.declared.Coord.{Coord}
+use Rattle.refusal.specs.declared.Refusal.{Refusal}
+use Rattle.refusal.specs.declared.Refusal.the-variants.{InvalidParity, CoordOverflow}
+use Rattle.refusal.specs.declared.Outcome.{Outcome}
+use Rattle.refusal.specs.declared.Outcome.the-variants as outcome
+use Rattle.lattice.specs.declared.Parity.{Parity}
+use Rattle.lattice.specs.declared.Parity.the-variants.{Even, Odd}
+use Rattle.lattice.specs.declared.ParityAnswer.{ParityAnswer}
+use Rattle.lattice.specs.declared.ParityAnswer.the-variants as parity
+use Rattle.lattice.specs.declared.CoordAnswer.{CoordAnswer}
+use Rattle.lattice.specs.declared.CoordAnswer.the-variants as coord
+use Rattle.lattice.specs.declared.NumberAnswer.{NumberAnswer}
+use Rattle.lattice.specs.declared.NumberAnswer.the-variants as number
+use Rattle.lattice.specs.declared.Neighbors.{Neighbors}
+use Rattle.lattice.specs.declared.Children.{Children}
+
+abbrev pub at : ℤ → ℤ → ℤ → Coord
+at x y z = record { x = x; y = y; z = z }
+
+-- each coordinate fits 32 bits
+pub record Fit (c : Coord) : Type 0 where
+  pub in-x : SFits w32 (c .x)
+  pub in-y : SFits w32 (c .y)
+  pub in-z : SFits w32 (c .z)
+
+-- ---- parity
+
+-- odd: the distance from zero leaves 1 at a division by 2
+abbrev pub isOdd : ℤ → Bool
+isOdd z = eqb (natAbs z % 2) 1
+
+-- the coordinates are all even or all odd
+unfoldable pub isLatticePoint : Coord → Bool
+isLatticePoint c = Bool·beq (isOdd (c .x)) (isOdd (c .y)) && Bool·beq (isOdd (c .y)) (isOdd (c .z))
+
+-- their parity, or refusal 1 with the coordinates
+unfoldable pub parityOf : Coord → ParityAnswer
+unfolding isLatticePoint
+parityOf c = cond (isLatticePoint c) (parity.Is (cond (isOdd (c .x)) Odd Even)) (parity.Refused (InvalidParity c))
+
+abbrev pub oppositeOf : Parity → Parity
+oppositeOf Even = Odd
+oppositeOf Odd = Even
+
+-- ---- neighbours
+
+-- BCC_NEIGHBORS_14: the eight that change the parity, then the six that keep it
+unfoldable pub neighborSteps : List Coord
+neighborSteps =
+    let p = pos 1 in
+    let n = negsuc 0 in
+    let o = pos 0 in
+    at p p p ∷ at p p n ∷ at p n p ∷ at p n n ∷ at n p p ∷ at n p n ∷ at n n p ∷ at n n n
+    ∷ at (pos 2) o o ∷ at (negsuc 1) o o ∷ at o (pos 2) o ∷ at o (negsuc 1) o ∷ at o o (pos 2) ∷ at o o (negsuc 1) ∷ []
+
+abbrev pub moved : Coord → Coord → Coord
+moved c d = at (c .x +ℤ d .x) (c .y +ℤ d .y) (c .z +ℤ d .z)
+
+unfoldable pub around : Coord → List Coord
+unfolding neighborSteps
+around c = map (moved c) neighborSteps
+
+-- from low to high, both ends counted
+abbrev pub within : ℤ → ℤ → ℤ → Bool
+within low high z = leZ low z && leZ z high
+
+-- "each coordinate is in -2147483646..=2147483645"
+unfoldable pub hasNeighborRoom : Coord → Bool
+hasNeighborRoom c =
+    let roomy = within (negsuc 2147483645) (pos 2147483645) in
+    roomy (c .x) && (roomy (c .y) && roomy (c .z))
+
+-- refused: no coordinate is handed over
+abbrev pub noNeighbors : Refusal → Neighbors
+noNeighbors r = record { outcome = outcome.Refused r; coords = replicate 14 (at (pos 0) (pos 0) (pos 0)) }
+
+abbrev pub neighborsIn : Bool → Coord → Neighbors
+neighborsIn true c = record { outcome = outcome.Answered; coords = around c }
+neighborsIn false c = noNeighbors CoordOverflow
+
+abbrev pub neighborsBy : ParityAnswer → Coord → Neighbors
+neighborsBy (parity.Refused r) c = noNeighbors r
+neighborsBy (parity.Is p) c = neighborsIn (hasNeighborRoom c) c
+
+-- "Parity first, then CoordOverflow"
+unfoldable pub neighborsOf : Coord → Neighbors
+unfolding parityOf hasNeighborRoom around
+neighborsOf c = neighborsBy (parityOf c) c
+
+-- ---- children
+
+-- CHILD_OFFSETS: twice the parent itself, the three positive steps along an axis, and the four diagonals with positive x
+unfoldable pub childSteps : List Coord
+childSteps =
+    let p = pos 1 in
+    let n = negsuc 0 in
+    let o = pos 0 in
+    at o o o ∷ at (pos 2) o o ∷ at o (pos 2) o ∷ at o o (pos 2) ∷ at p p p ∷ at p p n ∷ at p n p ∷ at p n n ∷ []
+
+abbrev pub doubled : Coord → Coord
+doubled c = moved c c
+
+unfoldable pub below : Coord → List Coord
+unfolding childSteps
+below c = map (moved (doubled c)) childSteps
+
+-- "x is in -1073741824..=1073741822 and y, z in -1073741823..=1073741822"
+unfoldable pub hasChildRoom : Coord → Bool
+hasChildRoom c =
+    let high = pos 1073741822 in
+    within (negsuc 1073741823) high (c .x) && (within (negsuc 1073741822) high (c .y) && within (negsuc 1073741822) high (c .z))
+
+abbrev pub noChildren : Refusal → Children
+noChildren r = record { outcome = outcome.Refused r; coords = replicate 8 (at (pos 0) (pos 0) (pos 0)) }
+
+abbrev pub childrenIn : Bool → Coord → Children
+childrenIn true c = record { outcome = outcome.Answered; coords = below c }
+childrenIn false c = noChildren CoordOverflow
+
+abbrev pub childrenBy : ParityAnswer → Coord → Children
+childrenBy (parity.Refused r) c = noChildren r
+childrenBy (parity.Is p) c = childrenIn (hasChildRoom c) c
+
+-- parity, then CoordOverflow
+unfoldable pub childrenOf : Coord → Children
+unfolding parityOf hasChildRoom below
+childrenOf c = childrenBy (parityOf c) c
+
+-- ---- parent
+
+-- half of a coordinate, rounded down: -3 to -2
+abbrev pub half : ℤ → ℤ
+half z = shrZ z 2
+
+abbrev pub lowered : Bool → ℤ → ℤ
+lowered b z = cond b (z +ℤ negsuc 0) z
+
+abbrev pub raised : Bool → ℤ → ℤ
+raised b z = cond b (z +ℤ pos 1) z
+
+-- the first parity stands alone against the other two
+abbrev pub alone : Bool → Bool → Bool → Bool
+alone a b d = not (Bool·beq a b) && Bool·beq b d
+
+-- of an even point: each coordinate halved, and the one whose half has another parity than the other two halves lowered by one
+abbrev pub evenParent : Coord → Coord
+evenParent q =
+    let a = isOdd (q .x) in
+    let b = isOdd (q .y) in
+    let d = isOdd (q .z) in
+    at (lowered (alone a b d) (q .x)) (lowered (alone b a d) (q .y)) (lowered (alone d a b) (q .z))
+
+-- of an odd point: each halved, and y and z raised by one where their half has another parity than that of x
+abbrev pub oddParent : Coord → Coord
+oddParent q =
+    let a = isOdd (q .x) in
+    at (q .x) (raised (not (Bool·beq a (isOdd (q .y)))) (q .y)) (raised (not (Bool·beq a (isOdd (q .z)))) (q .z))
+
+abbrev pub halves : Coord → Coord
+halves c = at (half (c .x)) (half (c .y)) (half (c .z))
+
+abbrev pub parentBy : ParityAnswer → Coord → CoordAnswer
+parentBy (parity.Refused r) c = coord.Refused r
+parentBy (parity.Is Even) c = coord.At (evenParent (halves c))
+parentBy (parity.Is Odd) c = coord.At (oddParent (halves c))
+
+unfoldable pub parentOf : Coord → CoordAnswer
+unfolding parityOf
+parentOf c = parentBy (parityOf c) c
+
+-- ---- Manhattan distance
+
+abbrev pub apart : ℤ → ℤ → ℕ
+apart a b = natAbs (a -ℤ b)
+
+unfoldable pub manhattan : Coord → Coord → ℕ
+manhattan a b = apart (a .x) (b .x) + apart (a .y) (b .y) + apart (a .z) (b .z)
+
+abbrev pub manhattanBy : ParityAnswer → ParityAnswer → ℕ → NumberAnswer
+manhattanBy (parity.Refused r) q n = number.Refused r
+manhattanBy (parity.Is p) (parity.Refused r) n = number.Refused r
+manhattanBy (parity.Is p) (parity.Is q) n = cond (leb n 2147483647) (number.Is (pos n)) (number.Refused CoordOverflow)
+
+-- "parity of the first, of the second; CoordOverflow when a difference leaves i32 [...] also when the sum passes 2147483647": a difference that leaves i32 is itself
+-- above 2147483647, so the sum decides
+unfoldable pub manhattanOf : Coord → Coord → NumberAnswer
+unfolding parityOf manhattan
+manhattanOf a b = manhattanBy (parityOf a) (parityOf b) (manhattan a b)

@@ -1,0 +1,339 @@
+// The body-centred cubic lattice on whole numbers: which points belong to it, their 14 neighbours, 8 children and parent, and the Manhattan distance.
+ghost use mathlib.Core.Path.{_≡_};
+ghost use mathlib.Core.Bool.{true, not, _&&_, Bool·beq};
+ghost use Prim.Native.Nat.{_<_, _^_};
+ghost use lib.IntN.{natAbs, _-ℤ_};
+ghost use mir.Syntax.{w32};
+ghost use mir.Val.{SFits};
+ghost use Rattle.lattice.specs.Lattice.{isOdd, isLatticePoint, parityOf, oppositeOf, Fit, at, moved, doubled, within, hasNeighborRoom, around, noNeighbors, neighborsOf, hasChildRoom, below, noChildren, childrenOf, half, halves, lowered, raised, alone, evenParent, oddParent, parentOf, apart, manhattan, manhattanOf};
+use refusal::Coord;
+use refusal::Outcome;
+use refusal::Refusal;
+
+// What the three coordinates of a lattice point have in common.
+pub enum Parity {
+    Even,
+    Odd,
+}
+
+pub enum ParityAnswer {
+    Is(Parity),
+    Refused(Refusal),
+}
+
+pub enum CoordAnswer {
+    At(Coord),
+    Refused(Refusal),
+}
+
+// A whole number, such as a Manhattan distance.
+pub enum NumberAnswer {
+    Is(i32),
+    Refused(Refusal),
+}
+
+// The 14 neighbours in the table's order; all zero where they are refused.
+pub struct Neighbors {
+    pub outcome: Outcome,
+    pub coords: [Coord; 14],
+}
+
+// The 8 children in the table's order; all zero where they are refused.
+pub struct Children {
+    pub outcome: Outcome,
+    pub coords: [Coord; 8],
+}
+
+pub fn opposite(p: Parity) -> Parity
+    ensures { λ r. ⌜ r ≡ oppositeOf p ⌝ }
+{
+    match p {
+        Parity::Even => Parity::Odd,
+        Parity::Odd => Parity::Even,
+    }
+}
+
+fn is_odd(x: i32) -> bool
+    ensures { λ r. ⌜ r ≡ isOdd x ⌝ }
+{
+    x % 2 != 0
+}
+
+// All even or all odd.
+pub fn is_valid_lattice_point(c: Coord) -> bool
+    ensures { λ r. ⌜ r ≡ isLatticePoint c ⌝ }
+{
+    let a = is_odd(c.x);
+    let b = is_odd(c.y);
+    let d = is_odd(c.z);
+    if a == b {
+        return b == d;
+    }
+    false
+}
+
+pub fn parity_of(c: Coord) -> ParityAnswer
+    ensures { λ r. ⌜ r ≡ parityOf c ⌝ }
+{
+    let valid = is_valid_lattice_point(c);
+    let odd = is_odd(c.x);
+    if valid {
+        if odd {
+            return ParityAnswer::Is(Parity::Odd);
+        }
+        return ParityAnswer::Is(Parity::Even);
+    }
+    ParityAnswer::Refused(Refusal::InvalidParity(c))
+}
+
+// From low to high, both ends counted.
+fn is_within(low: i32, high: i32, x: i32) -> bool
+    ensures { λ r. ⌜ r ≡ within low high x ⌝ }
+{
+    if low <= x {
+        return x <= high;
+    }
+    false
+}
+
+fn all_three(a: bool, b: bool, d: bool) -> bool
+    ensures { λ r. ⌜ r ≡ (a && (b && d)) ⌝ }
+{
+    if a {
+        if b {
+            return d;
+        }
+    }
+    false
+}
+
+// A step of two fits, whichever way.
+pub fn has_neighbor_room(c: Coord) -> bool
+    ensures { λ r. ⌜ r ≡ hasNeighborRoom c ⌝ }
+{
+    all_three(
+        is_within(-2147483646, 2147483645, c.x),
+        is_within(-2147483646, 2147483645, c.y),
+        is_within(-2147483646, 2147483645, c.z),
+    )
+}
+
+// Every child's coordinates fit.
+pub fn has_child_room(c: Coord) -> bool
+    ensures { λ r. ⌜ r ≡ hasChildRoom c ⌝ }
+{
+    all_three(
+        is_within(-1073741824, 1073741822, c.x),
+        is_within(-1073741823, 1073741822, c.y),
+        is_within(-1073741823, 1073741822, c.z),
+    )
+}
+
+fn moved(c: Coord, x: i32, y: i32, z: i32) -> Coord
+    requires { ⌜ Fit (moved c (at x y z)) ⌝ }
+    ensures { λ r. ⌜ r ≡ moved c (at x y z) ⌝ }
+{
+    Coord {
+        x: c.x + x,
+        y: c.y + y,
+        z: c.z + z,
+    }
+}
+
+fn doubled(c: Coord) -> Coord
+    requires { ⌜ Fit (doubled c) ⌝ }
+    ensures { λ r. ⌜ r ≡ doubled c ⌝ }
+{
+    Coord {
+        x: c.x + c.x,
+        y: c.y + c.y,
+        z: c.z + c.z,
+    }
+}
+
+// The 14 neighbours in the table's order.
+pub fn around(c: Coord) -> [Coord; 14]
+    requires { ⌜ hasNeighborRoom c ≡ true ⌝ }
+    ensures { λ r. ⌜ r ≡ around c ⌝ }
+{
+    [
+        moved(c, 1, 1, 1),
+        moved(c, 1, 1, -1),
+        moved(c, 1, -1, 1),
+        moved(c, 1, -1, -1),
+        moved(c, -1, 1, 1),
+        moved(c, -1, 1, -1),
+        moved(c, -1, -1, 1),
+        moved(c, -1, -1, -1),
+        moved(c, 2, 0, 0),
+        moved(c, -2, 0, 0),
+        moved(c, 0, 2, 0),
+        moved(c, 0, -2, 0),
+        moved(c, 0, 0, 2),
+        moved(c, 0, 0, -2),
+    ]
+}
+
+const NOWHERE: Coord = Coord { x: 0, y: 0, z: 0 };
+
+fn no_neighbors(r: Refusal) -> Neighbors
+    ensures { λ n. ⌜ n ≡ noNeighbors r ⌝ }
+{
+    Neighbors {
+        outcome: Outcome::Refused(r),
+        coords: [NOWHERE; 14],
+    }
+}
+
+// Parity first, then room.
+pub fn get_neighbors(c: Coord) -> Neighbors
+    ensures { λ r. ⌜ r ≡ neighborsOf c ⌝ }
+{
+    let parity = parity_of(c);
+    match parity {
+        ParityAnswer::Refused(r) => no_neighbors(r),
+        ParityAnswer::Is(_) => {
+            if has_neighbor_room(c) {
+                let coords = around(c);
+                Neighbors {
+                    outcome: Outcome::Answered,
+                    coords,
+                }
+            } else {
+                no_neighbors(Refusal::CoordOverflow)
+            }
+        }
+    }
+}
+
+// The 8 children in the table's order.
+pub fn below(c: Coord) -> [Coord; 8]
+    requires { ⌜ hasChildRoom c ≡ true ⌝ }
+    ensures { λ r. ⌜ r ≡ below c ⌝ }
+{
+    let twice = doubled(c);
+    [
+        moved(twice, 0, 0, 0),
+        moved(twice, 2, 0, 0),
+        moved(twice, 0, 2, 0),
+        moved(twice, 0, 0, 2),
+        moved(twice, 1, 1, 1),
+        moved(twice, 1, 1, -1),
+        moved(twice, 1, -1, 1),
+        moved(twice, 1, -1, -1),
+    ]
+}
+
+fn no_children(r: Refusal) -> Children
+    ensures { λ n. ⌜ n ≡ noChildren r ⌝ }
+{
+    Children {
+        outcome: Outcome::Refused(r),
+        coords: [NOWHERE; 8],
+    }
+}
+
+// Parity first, then room.
+pub fn get_children(c: Coord) -> Children
+    ensures { λ r. ⌜ r ≡ childrenOf c ⌝ }
+{
+    let parity = parity_of(c);
+    match parity {
+        ParityAnswer::Refused(r) => no_children(r),
+        ParityAnswer::Is(_) => {
+            if has_child_room(c) {
+                let coords = below(c);
+                Children {
+                    outcome: Outcome::Answered,
+                    coords,
+                }
+            } else {
+                no_children(Refusal::CoordOverflow)
+            }
+        }
+    }
+}
+
+// Rounded down, of negatives too.
+fn half(x: i32) -> i32
+    ensures { λ r. ⌜ r ≡ half x ⌝ }
+{
+    x >> 1
+}
+
+fn halves(c: Coord) -> Coord
+    ensures { λ r. ⌜ (r ≡ halves c) × (hasNeighborRoom r ≡ true) ⌝ }
+{
+    Coord {
+        x: half(c.x),
+        y: half(c.y),
+        z: half(c.z),
+    }
+}
+
+// One less where the parity of x stands alone against those of y and z.
+fn lowered_alone(x: i32, y: i32, z: i32) -> i32
+    requires { ⌜ SFits w32 (lowered true x) ⌝ }
+    ensures { λ r. ⌜ r ≡ lowered (alone (isOdd x) (isOdd y) (isOdd z)) x ⌝ }
+{
+    let a = is_odd(x);
+    let b = is_odd(y);
+    let d = is_odd(z);
+    if a == b {
+        return x;
+    }
+    if b == d {
+        return x - 1;
+    }
+    x
+}
+
+fn even_parent(q: Coord) -> Coord
+    requires { ⌜ hasNeighborRoom q ≡ true ⌝ }
+    ensures { λ r. ⌜ r ≡ evenParent q ⌝ }
+{
+    Coord {
+        x: lowered_alone(q.x, q.y, q.z),
+        y: lowered_alone(q.y, q.x, q.z),
+        z: lowered_alone(q.z, q.x, q.y),
+    }
+}
+
+// One more where the parity of y is not that of x.
+fn raised_to(x: i32, y: i32) -> i32
+    requires { ⌜ SFits w32 (raised true y) ⌝ }
+    ensures { λ r. ⌜ r ≡ raised (not (Bool·beq (isOdd x) (isOdd y))) y ⌝ }
+{
+    let a = is_odd(x);
+    let b = is_odd(y);
+    if a == b {
+        return y;
+    }
+    y + 1
+}
+
+fn odd_parent(q: Coord) -> Coord
+    requires { ⌜ hasNeighborRoom q ≡ true ⌝ }
+    ensures { λ r. ⌜ r ≡ oddParent q ⌝ }
+{
+    Coord {
+        x: q.x,
+        y: raised_to(q.x, q.y),
+        z: raised_to(q.x, q.z),
+    }
+}
+
+// The one point whose child this is.
+pub fn get_parent(c: Coord) -> CoordAnswer
+    ensures { λ r. ⌜ r ≡ parentOf c ⌝ }
+{
+    let parity = parity_of(c);
+    let q = halves(c);
+    match parity {
+        ParityAnswer::Refused(r) => CoordAnswer::Refused(r),
+        ParityAnswer::Is(p) => match p {
+            Parity::Even => CoordAnswer::At(even_parent(q)),
+            Parity::Odd => CoordAnswer::At(odd_parent(q)),
+        },
+    }
+}
