@@ -1,0 +1,4 @@
+mod Answers
+mod Complement
+mod Filled
+mod Words

@@ -1,0 +1,27 @@
+-- Field by field: each is the number that its function gave.
+use borrow.Author.Needs.{needs}
+use mathlib.Core.Path.{_∙_}
+use Rattle.cell.proofs.Complement.{kept}
+use Rattle.cell.specs.Cell.{coordOf}
+use Rattle.cell.proofs.coord.Statement.{statement}
+use Rattle.cell.proofs.coord.Tie as tie
+
+x-requires : tie.Need-x-requires
+x-requires c κs = search needs
+
+y-requires : tie.Need-y-requires
+y-requires c κs = search needs
+
+z-requires : tie.Need-z-requires
+z-requires c κs = search needs
+
+returns : tie.Need-returns
+unfolding coordOf
+returns c =
+    let ex = kept _ (c .before .before .x .ok) ∙ c .before .before .x .ensures in
+    let ey = kept _ (c .before .y .ok) ∙ c .before .y .ensures in
+    let ez = kept _ (c .z .ok) ∙ c .z .ensures in
+    λ i. record { x = ex i; y = ey i; z = ez i }
+
+pub coord-spec : {M : Type 1} → statement M
+coord-spec = tie.close (tie.spec x-requires y-requires z-requires returns)

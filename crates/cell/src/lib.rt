@@ -1,0 +1,221 @@
+// The packed cell: 128 bits that name a frame, a resolution and a place of the lattice, with an exponent and flags.
+ghost use mathlib.Core.Path.{_≡_};
+ghost use mathlib.Core.List.{map};
+ghost use Rattle.lattice.specs.Lattice.{at};
+ghost use Rattle.cell.specs.Cell.{frameOf, resolutionOf, exponentOf, flagsOf, reservedOf, xOf, yOf, zOf, coordOf, packed, newOf, latticeCoordOf, isPlain, sameCell, lessCell, orderOf, plainAt};
+
+mod twos;
+
+use lattice::CoordAnswer;
+use lattice::ParityAnswer;
+use refusal::Cell;
+use refusal::Coord;
+use refusal::Outcome;
+use refusal::Refusal;
+
+pub enum CellAnswer {
+    Is(Cell),
+    Refused(Refusal),
+}
+
+// How the first of two cells stands to the second, over all 128 bits.
+pub enum Order {
+    Below,
+    Same,
+    Above,
+}
+
+// What lies between two cells: never a cell.
+pub enum Between {
+    Nothing,
+    Refused(Refusal),
+}
+
+// The 14 neighbours in the table's order; all zero where they are refused.
+pub struct Neighbors {
+    pub outcome: Outcome,
+    pub cells: [Cell; 14],
+}
+
+// The 8 children in the table's order; all zero where they are refused.
+pub struct Children {
+    pub outcome: Outcome,
+    pub cells: [Cell; 8],
+}
+
+// The coordinate reference system.
+pub fn frame(c: Cell) -> u8
+    ensures { λ r. ⌜ r ≡ frameOf c ⌝ }
+{
+    (c.low % 256) as u8
+}
+
+// The level of detail, higher is finer.
+pub fn resolution(c: Cell) -> u8
+    ensures { λ r. ⌜ r ≡ resolutionOf c ⌝ }
+{
+    (c.low / 256 % 256) as u8
+}
+
+// The scale factor, 0 to 15.
+pub fn exponent(c: Cell) -> u8
+    ensures { λ r. ⌜ r ≡ exponentOf c ⌝ }
+{
+    (c.low / 65536 % 16) as u8
+}
+
+pub fn flags(c: Cell) -> u8
+    ensures { λ r. ⌜ r ≡ flagsOf c ⌝ }
+{
+    (c.low / 1048576 % 256) as u8
+}
+
+// Four bits that no call sets.
+pub fn reserved(c: Cell) -> u8
+    ensures { λ r. ⌜ r ≡ reservedOf c ⌝ }
+{
+    (c.low / 268435456 % 16) as u8
+}
+
+pub fn x(c: Cell) -> i32
+    ensures { λ r. ⌜ r ≡ xOf c ⌝ }
+{
+    twos::of_bits((c.low / 4294967296) as u32)
+}
+
+pub fn y(c: Cell) -> i32
+    ensures { λ r. ⌜ r ≡ yOf c ⌝ }
+{
+    twos::of_bits((c.high % 4294967296) as u32)
+}
+
+pub fn z(c: Cell) -> i32
+    ensures { λ r. ⌜ r ≡ zOf c ⌝ }
+{
+    twos::of_bits((c.high / 4294967296) as u32)
+}
+
+// The place that a cell names, whether or not it is a lattice point.
+pub fn coord(c: Cell) -> Coord
+    ensures { λ r. ⌜ r ≡ coordOf c ⌝ }
+{
+    Coord {
+        x: x(c),
+        y: y(c),
+        z: z(c),
+    }
+}
+
+// The cell of these fields: of the exponent the lower four bits are kept, and nothing is reserved.
+pub fn packed(frame: u8, resolution: u8, c: Coord, exponent: u8, flags: u8) -> Cell
+    ensures { λ r. ⌜ r ≡ packed frame resolution c exponent flags ⌝ }
+{
+    let x = twos::bits_of(c.x) as u64;
+    let y = twos::bits_of(c.y) as u64;
+    let z = twos::bits_of(c.z) as u64;
+    let kept = (exponent % 16) as u64;
+    Cell {
+        high: z * 4294967296 + y,
+        low: (((x * 16 * 256 + flags as u64) * 16 + kept) * 256 + resolution as u64) * 256
+            + frame as u64,
+    }
+}
+
+fn new_at(frame: u8, resolution: u8, c: Coord, exponent: u8, flags: u8) -> CellAnswer
+    ensures { λ r. ⌜ r ≡ newOf frame resolution c exponent flags ⌝ }
+{
+    let p = lattice::parity_of(c);
+    match p {
+        ParityAnswer::Is(_) => CellAnswer::Is(packed(frame, resolution, c, exponent, flags)),
+        ParityAnswer::Refused(r) => CellAnswer::Refused(r),
+    }
+}
+
+pub fn new(frame: u8, resolution: u8, x: i32, y: i32, z: i32, exponent: u8, flags: u8) -> CellAnswer
+    ensures { λ r. ⌜ r ≡ newOf frame resolution (at x y z) exponent flags ⌝ }
+{
+    new_at(frame, resolution, Coord { x, y, z }, exponent, flags)
+}
+
+pub fn from_coords(frame: u8, resolution: u8, x: i32, y: i32, z: i32) -> CellAnswer
+    ensures { λ r. ⌜ r ≡ newOf frame resolution (at x y z) 0 0 ⌝ }
+{
+    new(frame, resolution, x, y, z, 0, 0)
+}
+
+pub fn from_lattice_coord(frame: u8, resolution: u8, c: Coord) -> CellAnswer
+    ensures { λ r. ⌜ r ≡ newOf frame resolution c 0 0 ⌝ }
+{
+    new_at(frame, resolution, c, 0, 0)
+}
+
+// The place that a cell names, refused where it is no lattice point.
+pub fn lattice_coord(c: Cell) -> CoordAnswer
+    ensures { λ r. ⌜ r ≡ latticeCoordOf c ⌝ }
+{
+    let place = coord(c);
+    let p = lattice::parity_of(place);
+    match p {
+        ParityAnswer::Is(_) => CoordAnswer::At(place),
+        ParityAnswer::Refused(r) => CoordAnswer::Refused(r),
+    }
+}
+
+// Exponent, flags and reserved are zero.
+pub fn is_plain(c: Cell) -> bool
+    ensures { λ r. ⌜ r ≡ isPlain c ⌝ }
+{
+    if exponent(c) == 0 {
+        if flags(c) == 0 {
+            return reserved(c) == 0;
+        }
+    }
+    false
+}
+
+// Equal in all 128 bits.
+pub fn same(a: Cell, b: Cell) -> bool
+    ensures { λ r. ⌜ r ≡ sameCell a b ⌝ }
+{
+    if a.high == b.high {
+        return a.low == b.low;
+    }
+    false
+}
+
+// Below in the order of the 128 bits as one number.
+pub fn less(a: Cell, b: Cell) -> bool
+    ensures { λ r. ⌜ r ≡ lessCell a b ⌝ }
+{
+    if a.high == b.high {
+        return a.low < b.low;
+    }
+    a.high < b.high
+}
+
+pub fn compare(a: Cell, b: Cell) -> Order
+    ensures { λ r. ⌜ r ≡ orderOf a b ⌝ }
+{
+    if less(a, b) {
+        return Order::Below;
+    }
+    if same(a, b) {
+        return Order::Same;
+    }
+    Order::Above
+}
+
+const ZERO: Cell = Cell { high: 0, low: 0 };
+
+// The plain cells at 14 places.
+fn plain14(frame: u8, resolution: u8, places: [Coord; 14]) -> [Cell; 14]
+    ensures { λ r. ⌜ r ≡ map (plainAt frame resolution) places ⌝ }
+{
+    let mut cells = [ZERO; 14];
+    let mut i = 0;
+    while i < 14 {
+        cells[i] = packed(frame, resolution, places[i], 0, 0);
+        i += 1;
+    }
+    cells
+}
