@@ -1,1 +1,4 @@
 pub mod Lattice
+pub mod Laws
+pub mod Signs
+pub mod Tables

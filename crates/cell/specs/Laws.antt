@@ -1,0 +1,249 @@
+-- What follows from the definitions of the packed cell alone: packing and unpacking undo each other. Assumes nothing.
+use mathlib.Core.Path.{_≡_, refl, sym, ap, ap₂, subst, _∙_}
+use mathlib.Core.Logic.{_↔_}
+use mathlib.Core.Bool.{Bool, true, false, cond, _&&_}
+use mathlib.Core.List.{List, List·Memᴰ, Memᴰ·cast, Memᴰ·map, Memᴰ·of-map}
+use Prim.Native.Nat.{ℕ, _+_, _*_, _/_, _%_, _^_, _<_}
+use native.Mathlib.Nat.{div-add-mod', div-div-eq-div-mul, mod-mod}
+use native.Mathlib.Omega.{arith}
+use lib.Dec.{eqb}
+use borrow.Author.Tests.{eqb-true, eqb-false, ne-eqb}
+use mir.Syntax.{w32}
+use mir.Val.{Fits, SFits, toZ, ofZ}
+use mir.Facts.{fits-ofZ, toZ-ofZ, ofZ-toZ, sfits-toZ}
+use Rattle.refusal.specs.declared.Coord.{Coord}
+use Rattle.refusal.specs.declared.Cell.{Cell}
+use Rattle.refusal.specs.declared.Refusal.{Refusal}
+use Rattle.refusal.specs.declared.Refusal.the-variants.{NoParent, NoChildren, CoordOverflow}
+use Rattle.refusal.specs.declared.Outcome.{Outcome}
+use Rattle.refusal.specs.declared.Outcome.the-variants as outcome
+use Rattle.refusal.specs.Table.{rawOf}
+use Rattle.lattice.specs.declared.Parity.{Parity}
+use Rattle.lattice.specs.declared.ParityAnswer.{ParityAnswer}
+use Rattle.lattice.specs.declared.ParityAnswer.the-variants as parity
+use Rattle.lattice.specs.declared.CoordAnswer.{CoordAnswer}
+use Rattle.lattice.specs.declared.CoordAnswer.the-variants as coord
+use Rattle.lattice.specs.Lattice as lattice
+use Rattle.lattice.specs.Lattice.{at, isLatticePoint, parityOf, around, below, hasNeighborRoom, hasChildRoom}
+use Rattle.lattice.specs.Laws as lattice-laws
+use Rattle.lattice.specs.Laws.{Fitting, parity-point, neighbor-symmetric, room-fits, child-room-fits}
+use Rattle.lattice.specs.Signs.{both}
+use Rattle.cell.specs.declared.CellAnswer.{CellAnswer}
+use Rattle.cell.specs.declared.CellAnswer.the-variants.{Is, Refused}
+use Rattle.cell.specs.Cell.{frameOf, resolutionOf, exponentOf, flagsOf, reservedOf, coordOf, packed, newBy, newOf, isPlain, plainAt, plainTwin, sameCell, nearCells, childCells, noChildren, childrenIn, childrenBy, childrenOf, parentAt, parentOf}
+use Rattle.cell.specs.declared.Children.{Children}
+
+-- a cell as the code holds it: two words of 64 bits
+pub record Words (c : Cell) : Type 0 where
+  pub high-word : c .high < 2 ^ 64
+  pub low-word : c .low < 2 ^ 64
+
+-- a cell whose fields are these, with the exponent modulo 16 and nothing reserved
+pub record ReadsBack (frame resolution : ℕ) (c : Coord) (exponent flags : ℕ) (k : Cell) : Type 0 where
+  pub frame-back : frameOf k ≡ frame
+  pub resolution-back : resolutionOf k ≡ resolution
+  pub coord-back : coordOf k ≡ c
+  pub exponent-back : exponentOf k ≡ exponent % 16
+  pub flags-back : flagsOf k ≡ flags
+  pub reserved-back : reservedOf k ≡ 0
+  pub words : Words k
+
+-- ---- a word taken apart
+
+abbrev lowWord : ℕ → ℕ → ℕ → ℕ → ℕ → ℕ
+lowWord x flags exponent resolution frame = (((x * 16 * 256 + flags) * 16 + exponent % 16) * 256 + resolution) * 256 + frame
+
+record LowParts (x flags exponent resolution frame word : ℕ) : Type 0 where
+  is-frame : word % 256 ≡ frame
+  is-resolution : word / 256 % 256 ≡ resolution
+  is-exponent : word / 65536 % 16 ≡ exponent % 16
+  is-flags : word / 1048576 % 256 ≡ flags
+  is-reserved : word / 268435456 % 16 ≡ 0
+  is-x : word / 4294967296 ≡ x
+  is-word : word < 2 ^ 64
+
+low-parts : (x flags exponent resolution frame : ℕ) → x < 2 ^ 32 → flags < 256 → resolution < 256 → frame < 256 → LowParts x flags exponent resolution frame (lowWord x flags exponent resolution frame)
+low-parts x flags exponent resolution frame hx hg hr hf =
+    record {
+      is-frame = omega arith;
+      is-resolution = omega arith;
+      is-exponent = omega arith;
+      is-flags = omega arith;
+      is-reserved = omega arith;
+      is-x = omega arith;
+      is-word = omega arith;
+    }
+
+record HighParts (z y word : ℕ) : Type 0 where
+  is-z : word / 4294967296 ≡ z
+  is-y : word % 4294967296 ≡ y
+  is-word : word < 2 ^ 64
+
+high-parts : (z y : ℕ) → z < 2 ^ 32 → y < 2 ^ 32 → HighParts z y (z * 4294967296 + y)
+high-parts z y hz hy = record { is-z = omega arith; is-y = omega arith; is-word = omega arith }
+
+-- ---- packing and unpacking
+
+-- unpack after pack: what was packed is read back
+pub fields-packed : (frame resolution : ℕ) (c : Coord) (exponent flags : ℕ) → frame < 256 → resolution < 256 → flags < 256 → Fitting c → ReadsBack frame resolution c exponent flags (packed frame resolution c exponent flags)
+unfolding packed coordOf
+fields-packed frame resolution c exponent flags hf hr hg fits =
+    let l = low-parts (ofZ w32 (c .x)) flags exponent resolution frame (fits-ofZ (fits .in-x) .fits) hg hr hf in
+    let h = high-parts (ofZ w32 (c .z)) (ofZ w32 (c .y)) (fits-ofZ (fits .in-z) .fits) (fits-ofZ (fits .in-y) .fits) in
+    record {
+      frame-back = l .is-frame;
+      resolution-back = l .is-resolution;
+      coord-back = λ i. at ((ap (toZ w32) (l .is-x) ∙ toZ-ofZ (fits .in-x)) i) ((ap (toZ w32) (h .is-y) ∙ toZ-ofZ (fits .in-y)) i) ((ap (toZ w32) (h .is-z) ∙ toZ-ofZ (fits .in-z)) i);
+      exponent-back = l .is-exponent;
+      flags-back = l .is-flags;
+      reserved-back = l .is-reserved;
+      words = record { high-word = h .is-word; low-word = l .is-word };
+    }
+
+-- one digit to the base k, above the m lowest
+digit : (n m k : ℕ) → n / m ≡ n / (m * k) * k + n / m % k
+digit n m k = rw (← div-div-eq-div-mul) (sym (div-add-mod' (n / m) k))
+
+glue : (x g e r f : ℕ) {n n8 n16 n20 n28 : ℕ} → n28 ≡ x * 16 + 0 → n20 ≡ n28 * 256 + g → n16 ≡ n20 * 16 + e → n8 ≡ n16 * 256 + r → n ≡ n8 * 256 + f → (((x * 16 * 256 + g) * 16 + e) * 256 + r) * 256 + f ≡ n
+glue x g e r f h₁ h₂ h₃ h₄ h₅ = omega arith
+
+low-whole : (n : ℕ) → n / 268435456 % 16 ≡ 0 → lowWord (n / 4294967296) (n / 1048576 % 256) (n / 65536 % 16) (n / 256 % 256) (n % 256) ≡ n
+low-whole n e =
+    rw mod-mod
+    (glue (n / 4294967296) (n / 1048576 % 256) (n / 65536 % 16) (n / 256 % 256) (n % 256) (digit n 268435456 16 ∙ ap (λ (r : ℕ). n / 4294967296 * 16 + r) e) (digit n 1048576 256) (digit n 65536 16) (digit n 256 256) (sym (div-add-mod' n 256)))
+
+-- pack after unpack: a cell with nothing reserved is the cell of its fields
+pub packed-fields : (c : Cell) → Words c → reservedOf c ≡ 0 → packed (frameOf c) (resolutionOf c) (coordOf c) (exponentOf c) (flagsOf c) ≡ c
+unfolding packed coordOf
+packed-fields c w e =
+    let x : Fits w32 (c .low / 4294967296) = record { fits = omega arith } in
+    let y : Fits w32 (c .high % 4294967296) = record { fits = omega arith } in
+    let z : Fits w32 (c .high / 4294967296) = record { fits = omega arith } in
+    let low : lowWord (ofZ w32 (toZ w32 (c .low / 4294967296))) (flagsOf c) (exponentOf c) (resolutionOf c) (frameOf c) ≡ c .low = rw (ofZ-toZ x) (low-whole (c .low) e) in
+    let high : ofZ w32 (toZ w32 (c .high / 4294967296)) * 4294967296 + ofZ w32 (toZ w32 (c .high % 4294967296)) ≡ c .high = rw (ofZ-toZ z, ofZ-toZ y) (div-add-mod' (c .high) 4294967296) in
+    λ i. record { high = high i; low = low i }
+
+-- so `new` makes such a cell again from its fields, if its place is a lattice point
+pub new-fields : (c : Cell) (p : Parity) → Words c → reservedOf c ≡ 0 → parityOf (coordOf c) ≡ parity.Is p → newOf (frameOf c) (resolutionOf c) (coordOf c) (exponentOf c) (flagsOf c) ≡ Is c
+unfolding newOf
+new-fields c p w e q = rw q (ap Is (packed-fields c w e))
+
+made : (a : ParityAnswer) (c k : Cell) → newBy a c ≡ Is k → c ≡ k
+made (parity.Refused r) c k e = cc
+made (parity.Is p) c k e = cc
+
+-- the cell that `new` answers has the fields that it was given
+pub new-reads-back : (frame resolution : ℕ) (c : Coord) (exponent flags : ℕ) (k : Cell) → frame < 256 → resolution < 256 → flags < 256 → Fitting c → newOf frame resolution c exponent flags ≡ Is k → ReadsBack frame resolution c exponent flags k
+unfolding newOf
+new-reads-back frame resolution c exponent flags k hf hr hg fits e =
+    subst (ReadsBack frame resolution c exponent flags) (made (parityOf c) (packed frame resolution c exponent flags) k e) (fields-packed frame resolution c exponent flags hf hr hg fits)
+
+-- ---- plain cells
+
+-- a plain cell is its own plain twin
+pub plain-twin : (c : Cell) → Words c → isPlain c ≡ true → plainTwin c ≡ c
+unfolding isPlain plainTwin
+plain-twin c w e =
+    let h = both (eqb (exponentOf c) 0) (eqb (flagsOf c) 0 && eqb (reservedOf c) 0) e in
+    let g = both (eqb (flagsOf c) 0) (eqb (reservedOf c) 0) (h .1) in
+    ap₂ (packed (frameOf c) (resolutionOf c) (coordOf c)) (sym (eqb-true (exponentOf c) 0 (h .0))) (sym (eqb-true (flagsOf c) 0 (g .0)))
+    ∙ packed-fields c w (eqb-true (reservedOf c) 0 (g .1))
+
+-- the plain cell at a place is plain
+pub plain-is-plain : (frame resolution : ℕ) (c : Coord) → frame < 256 → resolution < 256 → Fitting c → isPlain (plainAt frame resolution c) ≡ true
+unfolding isPlain
+plain-is-plain frame resolution c hf hr fits =
+    let k = fields-packed frame resolution c 0 0 hf hr (omega arith) fits in
+    rw (k .exponent-back, k .flags-back, k .reserved-back)
+
+-- ---- children and their parent
+
+-- the parent of a cell, by its fields
+parent-by : (k : Cell) (frame resolution : ℕ) (d p : Coord) → frameOf k ≡ frame → resolutionOf k ≡ resolution + 1 → coordOf k ≡ d → lattice.parentOf d ≡ coord.At p → parentOf k ≡ Is (plainAt frame resolution p)
+unfolding parentOf
+parent-by k frame resolution d p f r e h =
+    ap (λ (t : Bool). cond t (Refused NoParent) (parentAt (lattice.parentOf (coordOf k)) k)) (ne-eqb (resolutionOf k) 0 (λ z. omega arith))
+    ∙ ap (λ (a : CoordAnswer). parentAt a k) (ap lattice.parentOf e ∙ h)
+    ∙ ap₂ (λ (f r : ℕ). Is (plainAt f r p)) f (omega arith)
+
+-- a cell that has children: it is not of the finest resolution, its place is a lattice point, and there is room
+pub record HasChildren (c : Cell) : Type 0 where
+  pub coarser : resolutionOf c < 255
+  pub point : isLatticePoint (coordOf c) ≡ true
+  pub room : hasChildRoom (coordOf c) ≡ true
+
+-- the parent of each child is the cell's plain twin
+pub child-parent : (c k : Cell) → HasChildren c → List·Memᴰ k (childCells c) → parentOf k ≡ Is (plainTwin c)
+unfolding childCells plainTwin
+child-parent c k h m =
+    let frame : frameOf c < 256 = omega arith in
+    let t = Memᴰ·of-map (plainAt (frameOf c) (resolutionOf c + 1)) (below (coordOf c)) m in
+    let b = fields-packed (frameOf c) (resolutionOf c + 1) (t .0) 0 0 frame (omega arith) (omega arith) (child-room-fits (coordOf c) (t .0) (h .room) (t .1)) in
+    subst (λ (k : Cell). parentOf k ≡ Is (plainAt (frameOf c) (resolutionOf c) (coordOf c))) (t .2)
+    (parent-by (plainAt (frameOf c) (resolutionOf c + 1) (t .0)) (frameOf c) (resolutionOf c) (t .0) (coordOf c) (b .frame-back) (b .resolution-back) (b .coord-back) (lattice-laws.child-parent (coordOf c) (t .0) (h .point) (t .1)))
+
+-- and of a plain cell's children, the cell itself
+pub plain-child-parent : (c k : Cell) → Words c → isPlain c ≡ true → HasChildren c → List·Memᴰ k (childCells c) → parentOf k ≡ Is c
+plain-child-parent c k w e h m = child-parent c k h m ∙ ap Is (plain-twin c w e)
+
+-- a cell whose children are answered has children, and the answer holds them
+pub record Answers (c : Cell) (a : Children) : Type 0 where
+  pub has : HasChildren c
+  pub are : a .cells ≡ childCells c
+
+refused-answered : (r : Refusal) → outcome.Refused r ≡ outcome.Answered → ⊥
+refused-answered r e = let z : _≡_ {A = ℕ} 0 1 = cc in omega arith
+
+answered-in : (c : Cell) (t : Bool) → hasChildRoom (coordOf c) ≡ t → resolutionOf c < 255 → isLatticePoint (coordOf c) ≡ true → childrenIn t c .outcome ≡ outcome.Answered → Answers c (childrenIn t c)
+answered-in c true room r p e = record { has = record { coarser = r; point = p; room = room }; are = refl }
+answered-in c false room r p e = absurd (refused-answered CoordOverflow e)
+
+answered-by : (c : Cell) (a : ParityAnswer) → parityOf (coordOf c) ≡ a → resolutionOf c < 255 → childrenBy a c .outcome ≡ outcome.Answered → Answers c (childrenBy a c)
+answered-by c (parity.Refused x) q r e = absurd (refused-answered x e)
+answered-by c (parity.Is p) q r e = answered-in c (hasChildRoom (coordOf c)) refl r (parity-point (coordOf c) p q) e
+
+not-finest : (n : ℕ) → n < 256 → (n ≡ 255 → ⊥) → n < 255
+not-finest n h g = omega arith
+
+answered : (c : Cell) (t : Bool) → eqb (resolutionOf c) 255 ≡ t → (cond t (noChildren NoChildren) (childrenBy (parityOf (coordOf c)) c)) .outcome ≡ outcome.Answered → Answers c (cond t (noChildren NoChildren) (childrenBy (parityOf (coordOf c)) c))
+answered c true q e = absurd (refused-answered NoChildren e)
+answered c false q e = answered-by c (parityOf (coordOf c)) refl (not-finest (resolutionOf c) (omega arith) (eqb-false (resolutionOf c) 255 q)) e
+
+pub children-answered : (c : Cell) → childrenOf c .outcome ≡ outcome.Answered → Answers c (childrenOf c)
+unfolding childrenOf
+children-answered c e = answered c (eqb (resolutionOf c) 255) refl e
+
+-- ---- neighbours
+
+near-back : (c n : Cell) → Words c → isPlain c ≡ true → hasNeighborRoom (coordOf c) ≡ true → List·Memᴰ n (nearCells c) → List·Memᴰ c (nearCells n)
+unfolding nearCells plainTwin
+near-back c n w e room m =
+    let frame : frameOf c < 256 = omega arith in
+    let t = Memᴰ·of-map (plainAt (frameOf c) (resolutionOf c)) (around (coordOf c)) m in
+    let b = fields-packed (frameOf c) (resolutionOf c) (t .0) 0 0 frame (omega arith) (omega arith) (room-fits (coordOf c) (t .0) room (t .1)) in
+    let place : coordOf n ≡ t .0 = ap coordOf (sym (t .2)) ∙ b .coord-back in
+    let frames : frameOf c ≡ frameOf n = sym (b .frame-back) ∙ ap frameOf (t .2) in
+    let resolutions : resolutionOf c ≡ resolutionOf n = sym (b .resolution-back) ∙ ap resolutionOf (t .2) in
+    Memᴰ·cast (sym (plain-twin c w e) ∙ ap₂ (λ (f r : ℕ). plainAt f r (coordOf c)) frames resolutions)
+    (Memᴰ·map (plainAt (frameOf n) (resolutionOf n)) (neighbor-symmetric (coordOf c) (coordOf n) (Memᴰ·cast place (t .1))))
+
+-- of two plain cells with neighbour room, each is a neighbour of the other or neither is
+pub neighborhood : (c n : Cell) → Words c → Words n → isPlain c ≡ true → isPlain n ≡ true → hasNeighborRoom (coordOf c) ≡ true → hasNeighborRoom (coordOf n) ≡ true → List·Memᴰ n (nearCells c) ↔ List·Memᴰ c (nearCells n)
+neighborhood c n wc wn pc pn rc rn = (near-back c n wc pc rc, near-back n c wn pn rn)
+
+-- ---- the order
+
+high-of : (h l : ℕ) → l < 2 ^ 64 → (h * 2 ^ 64 + l) / 2 ^ 64 ≡ h
+high-of h l p = omega arith
+
+low-of : (h l : ℕ) → l < 2 ^ 64 → (h * 2 ^ 64 + l) % 2 ^ 64 ≡ l
+low-of h l p = omega arith
+
+-- cells with the same 128 bits are the same cell
+pub same-cell : (a b : Cell) → Words a → Words b → sameCell a b ≡ true → a ≡ b
+unfolding rawOf
+same-cell a b v w e =
+    let r = eqb-true (rawOf a) (rawOf b) e in
+    let high : a .high ≡ b .high = sym (high-of (a .high) (a .low) (v .low-word)) ∙ ap (λ (n : ℕ). n / 2 ^ 64) r ∙ high-of (b .high) (b .low) (w .low-word) in
+    let low : a .low ≡ b .low = sym (low-of (a .high) (a .low) (v .low-word)) ∙ ap (λ (n : ℕ). n % 2 ^ 64) r ∙ low-of (b .high) (b .low) (w .low-word) in
+    λ i. record { high = high i; low = low i }
