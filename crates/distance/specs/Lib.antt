@@ -1,0 +1,3 @@
+pub mod Distance
+pub mod Whole
+pub mod Laws
