@@ -8,7 +8,8 @@ use lib.Dec.{T, eqb, ltb, leb}
 use lib.IntN.{ℤ, pos, negsuc, negℤ, natAbs, _+ℤ_, _-ℤ_}
 use lib.Signed.{mag, ltZ, quotZ, remZ, mag-shr}
 use mir.Syntax.{w32, w64}
-use mir.Val.{SFits, ofZ}
+use mir.Val.{SFits, ofZ, toZ}
+use mir.Facts.{toZ-ofZ}
 use borrow.Author.Tests.{leb-true, le-leb, ltb-true}
 use Rattle.lattice.specs.Lattice.{isOdd, within, half}
 
@@ -103,6 +104,9 @@ half-near (negsuc a) f = rw (le-leb (a / 2) 2147483645 (omega arith))
 
 pub wide-fits : {z : ℤ} → SFits w32 z → SFits w64 z
 wide-fits f = record { sfits = omega arith }
+
+pub widened : {z : ℤ} → SFits w32 z → toZ w64 (ofZ w64 (toZ w32 (ofZ w32 z))) ≡ z
+widened f = rw (toZ-ofZ f) (toZ-ofZ (wide-fits f))
 
 abs-cond : (b : Bool) {m n k : ℕ} → suc m < k → n < k → natAbs (cond b (negsuc m) (pos n)) < k
 abs-cond true h g = h

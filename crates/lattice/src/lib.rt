@@ -337,3 +337,54 @@ pub fn get_parent(c: Coord) -> CoordAnswer
         },
     }
 }
+
+fn difference(a: i32, b: i32) -> i64
+    ensures { λ r. ⌜ r ≡ a -ℤ b ⌝ }
+{
+    (a as i64) - (b as i64)
+}
+
+fn absolute(d: i64) -> u32
+    requires { ⌜ natAbs d < 2 ^ 32 ⌝ }
+    ensures { λ r. ⌜ r ≡ natAbs d ⌝ }
+{
+    if d < 0 {
+        return (0 - d) as u32;
+    }
+    d as u32
+}
+
+// How far two numbers are from each other, which may pass the signed numbers of 32 bits.
+fn apart(a: i32, b: i32) -> u32
+    ensures { λ r. ⌜ r ≡ apart a b ⌝ }
+{
+    absolute(difference(a, b))
+}
+
+fn manhattan(a: Coord, b: Coord) -> u64
+    ensures { λ r. ⌜ r ≡ manhattan a b ⌝ }
+{
+    (apart(a.x, b.x) as u64) + (apart(a.y, b.y) as u64) + (apart(a.z, b.z) as u64)
+}
+
+// Parity of the first, then of the second, then whether the sum fits.
+pub fn manhattan_distance_to(a: Coord, b: Coord) -> NumberAnswer
+    ensures { λ r. ⌜ r ≡ manhattanOf a b ⌝ }
+{
+    let first = parity_of(a);
+    let second = parity_of(b);
+    let n = manhattan(a, b);
+    match first {
+        ParityAnswer::Refused(r) => NumberAnswer::Refused(r),
+        ParityAnswer::Is(_) => match second {
+            ParityAnswer::Refused(r) => NumberAnswer::Refused(r),
+            ParityAnswer::Is(_) => {
+                if n <= 2147483647 {
+                    NumberAnswer::Is(n as i32)
+                } else {
+                    NumberAnswer::Refused(Refusal::CoordOverflow)
+                }
+            }
+        },
+    }
+}

@@ -1,0 +1,90 @@
+-- Each answer by the tests that led to it: the parities', then that of the sum.
+use borrow.Author.Needs.{needs}
+use Prim.Native.Nat.{ℕ, _≤_}
+use native.Mathlib.Omega.{arith}
+use mathlib.Core.Path.{_≡_, refl, sym, _∙_, ap}
+use mathlib.Core.Bool.{Bool, cond}
+use lib.Dec.{leb}
+use lib.IntN.{ℤ, pos}
+use mir.Syntax.{w32}
+use mir.Val.{toZ}
+use mir.Facts.{toZ-ofZ}
+use borrow.Author.Tests.{le-leb, lt-leb}
+use Rattle.refusal.specs.declared.Coord.{Coord}
+use Rattle.refusal.specs.declared.Refusal.the-variants.{CoordOverflow}
+use Rattle.lattice.specs.declared.ParityAnswer.{ParityAnswer}
+use Rattle.lattice.specs.declared.ParityAnswer.the-variants as parity
+use Rattle.lattice.specs.declared.NumberAnswer.the-variants.{Is, Refused}
+use Rattle.lattice.specs.Lattice.{parityOf, manhattan, manhattanBy, manhattanOf}
+use Rattle.lattice.proofs.Answers.{known}
+use Rattle.lattice.proofs.manhattan_distance_to.Statement.{statement}
+use Rattle.lattice.proofs.manhattan_distance_to.Tie as tie
+
+by-parities : (a b : Coord) {p q : ParityAnswer} → parityOf a ≡ p → parityOf b ≡ q → manhattanBy p q (manhattan a b) ≡ manhattanOf a b
+unfolding manhattanOf
+by-parities a b e f = (λ i. manhattanBy (sym e i) (sym f i) (manhattan a b))
+
+fitting : (n : ℕ) → n ≤ 2147483647 → toZ w32 n ≡ pos n
+fitting n h = toZ-ofZ {w = w32} {z = pos n} (record { sfits = omega arith })
+
+parity-of-requires : tie.Need-parity-of-requires
+parity-of-requires c κs = search needs
+
+parity-of-requires-2 : tie.Need-parity-of-requires-2
+parity-of-requires-2 c κs = search needs
+
+manhattan-requires : tie.Need-manhattan-requires
+manhattan-requires c κs = search needs
+
+enum-known-first : tie.Need-enum-known-first
+enum-known-first c = search needs
+
+enum-told : tie.Need-enum-told
+enum-told c = search needs
+
+enum-known-second : tie.Need-enum-known-second
+enum-known-second c = search needs
+
+enum-told-2 : tie.Need-enum-told-2
+enum-told-2 c = search needs
+
+cast-t12 : tie.Need-cast-t12
+cast-t12 c = search needs
+
+returns : tie.Need-returns
+returns c =
+    let told = c .before in
+    let start = told .before .before .before .before .before .args in
+    let first = told .before .before .before .before .parity-of in
+    by-parities (start .a) (start .b) (sym (first .ensures) ∙ told .first .given .1) refl
+
+abbrev first-known : (c : tie.At-match-keys2) → parityOf (c .before .before .before .before .args .a) ≡ parity.Is (known (c .before .before .before .parity-of .result) (c .match .keys2) .0)
+first-known c = sym (c .before .before .before .parity-of .ensures) ∙ known (c .before .before .before .parity-of .result) (c .match .keys2) .1
+
+returns-2 : tie.Need-returns-2
+returns-2 c =
+    let told = c .before in
+    let matched = told .before .before .before in
+    let start = matched .before .before .before .before .args in
+    by-parities (start .a) (start .b) (first-known matched) (sym (matched .before .before .parity-of2 .ensures) ∙ told .second .given .1)
+
+summed : (c : tie.After-enum-told2) {fits : Bool} → leb (c .before .before .before .before .manhattan .result) 2147483647 ≡ fits → cond fits (Is (pos (c .before .before .before .before .manhattan .result))) (Refused CoordOverflow) ≡ manhattanOf (c .before .before .before .before .before .before .before .args .a) (c .before .before .before .before .before .before .before .args .b)
+summed c e =
+    let matched = c .before .before .before in
+    let start = matched .before .before .before .before .args in
+    let second = matched .before .before .parity-of2 in
+    let n = matched .before .manhattan .result in
+    ap (λ (b : Bool). cond b (Is (pos n)) (Refused CoordOverflow)) (sym e)
+    ∙ ap (λ (m : ℕ). cond (leb m 2147483647) (Is (pos m)) (Refused CoordOverflow)) (matched .before .manhattan .ensures)
+    ∙ by-parities (start .a) (start .b) (first-known matched) (sym (second .ensures) ∙ known (second .result) (c .before .match2 .keys2) .1)
+
+returns-3 : tie.Need-returns-3
+returns-3 c =
+    let n = c .before .before .before .before .before .manhattan .result in
+    ap Is (fitting n (c .if1 .taken)) ∙ summed (c .before) (le-leb n 2147483647 (c .if1 .taken))
+
+returns-4 : tie.Need-returns-4
+returns-4 c = summed (c .before) (lt-leb (c .before .before .before .before .before .manhattan .result) 2147483647 (c .if1 .left))
+
+pub manhattan-distance-to-spec : {M : Type 1} → statement M
+manhattan-distance-to-spec = tie.close (tie.spec parity-of-requires parity-of-requires-2 manhattan-requires enum-known-first enum-told enum-known-second enum-told-2 cast-t12 returns returns-2 returns-3 returns-4)
