@@ -1,11 +1,9 @@
 -- "Distance of two cells: parity of the first, of the second; CoordOverflow when a difference leaves i32; else squares and sums rounded in source order, then the root."
 -- The scope document's sentence, of two places of the lattice, over IEEE 754's operations. Definitions only. Assumes nothing.
-use mathlib.Core.Bool.{Bool, true, false, cond, _&&_}
-use Prim.Native.Nat.{ℕ}
+use mathlib.Core.Bool.{Bool, true, false, _&&_}
 use lib.IntN.{ℤ, pos, negsuc, _-ℤ_}
 use lib.Ieee.{Float, binary64, ofInt, add, mul}
 use Rattle.refusal.specs.declared.Coord.{Coord}
-use Rattle.refusal.specs.declared.Refusal.{Refusal}
 use Rattle.refusal.specs.declared.Refusal.the-variants.{CoordOverflow}
 use Rattle.lattice.specs.declared.ParityAnswer.{ParityAnswer}
 use Rattle.lattice.specs.declared.ParityAnswer.the-variants as parity

@@ -8,7 +8,6 @@ use lib.Dec.{T, leb, leb→le, lit<, lit≤}
 use lib.Pow.{pow-mono}
 use lib.IntN.{ℤ, pos, negsuc, _-ℤ_}
 use lib.Ieee.{Float, binary64, ofInt, round, add, mul, isNan}
-use lib.Ieee.Exact.{HasValue}
 use lib.Ieee.Back.{round-whole}
 use mir.Syntax.{w32}
 use mir.Val.{SFits}
@@ -22,7 +21,6 @@ use Rattle.root.specs.declared.Root.the-variants as root
 use Rattle.root.specs.Root.{rootOf, rootWhole}
 use Rattle.root.specs.Answers.{answers}
 use Rattle.root.specs.Number.{of-number}
-use Rattle.distance.specs.declared.DistanceAnswer.{DistanceAnswer}
 use Rattle.distance.specs.declared.DistanceAnswer.the-variants.{Is, Refused}
 use Rattle.distance.specs.Distance.{differenceFits, differencesFit, squareApart, squaredDistance, rooted, distanceIn, distanceBy, distanceOf}
 use Rattle.distance.specs.Whole.{WholeTo, rounded-whole, square-at, sum-at}

@@ -1,3 +1,4 @@
 pub mod Distance
 pub mod Whole
 pub mod Laws
+pub mod Steps

@@ -1,8 +1,8 @@
 -- A whole number that is rounded is a whole number, and no larger than a power of two that bounded it; so squares and sums of whole numbers stay whole. Assumes nothing.
-use mathlib.Core.Path.{_≡_, refl, sym, ap, _∙_, subst}
+use mathlib.Core.Path.{_≡_, sym, ap, _∙_, subst}
 use mathlib.Core.Bool.{Bool, true, false, not, true≢false}
 use Prim.Native.Nat.{ℕ, suc, _+_, _-_, _*_, _/_, _%_, _^_, _≤_, _<_, compare}
-use native.Mathlib.Nat.{mul-one, one-mul, mul-assoc, mul-comm, mul-left-comm, mul-right-comm, mul-mul-mul-comm, add-mul, mul-pos, mul-le-mul-right, eq-of-mul-eq-mul-right, div-one, mod-one, le-trans, le-of-eq, le-of-lt, lt-of-lt-of-le, lt-of-le-of-lt, lt-of-not-le, not-le-of-lt, zero-lt-suc}
+use native.Mathlib.Nat.{mul-one, one-mul, mul-assoc, mul-comm, mul-right-comm, mul-mul-mul-comm, add-mul, mul-pos, mul-le-mul-right, eq-of-mul-eq-mul-right, div-one, mod-one, le-trans, le-of-eq, le-of-lt, lt-of-lt-of-le, lt-of-le-of-lt, lt-of-not-le, not-le-of-lt, zero-lt-suc}
 use native.Mathlib.Omega.{arith}
 use lib.IntN.{ℤ}
 use lib.Dec.{T, leb, leb→le, nleb→lt}
@@ -14,7 +14,7 @@ use lib.Ieee.Exact.{HasValue}
 use lib.Ieee.Back.{round-whole}
 use lib.Ieee.Nearest.{closest, closest-mono}
 use lib.Ieee.Order.{drop, kept}
-use lib.Ieee.Scale.{grid, overflow, round-val, round-same}
+use lib.Ieee.Scale.{grid, round-val, round-same}
 
 -- x is a whole number of at most 2 ^ j, not below zero
 pub record WholeTo (j : ℕ) (x : Float) : Type 0 where

@@ -10,6 +10,7 @@ use refusal::Coord;
 use refusal::Refusal;
 use root::Root;
 
+// The distance, or why there is none.
 pub enum DistanceAnswer {
     Is(f64),
     Refused(Refusal),
@@ -26,6 +27,7 @@ fn difference_fits(a: i32, b: i32) -> bool
     false
 }
 
+// The same on all three axes.
 fn differences_fit(a: Coord, b: Coord) -> bool
     ensures { λ r. ⌜ r ≡ differencesFit a b ⌝ }
 {

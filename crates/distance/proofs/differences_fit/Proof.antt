@@ -1,7 +1,7 @@
 -- The three tests of the code are the three of the definition.
 use borrow.Author.Needs.{needs}
-use mathlib.Core.Path.{_≡_, refl, sym, _∙_}
-use mathlib.Core.Bool.{Bool, _&&_}
+use mathlib.Core.Path.{_≡_, sym, _∙_}
+use mathlib.Core.Bool.{_&&_}
 use Rattle.lattice.proofs.Fields.{read}
 use Rattle.distance.specs.Distance.{differenceFits, differencesFit}
 use Rattle.distance.proofs.differences_fit.Statement.{statement}

@@ -1,8 +1,7 @@
 -- Each answer by the answers of parity, test and root that led to it.
 use borrow.Author.Needs.{needs}
-use mathlib.Core.Path.{_≡_, refl, sym, _∙_, ap}
+use mathlib.Core.Path.{_≡_, sym, _∙_, ap}
 use mathlib.Core.Bool.{Bool}
-use Rattle.refusal.specs.declared.Coord.{Coord}
 use Rattle.lattice.specs.declared.ParityAnswer.{ParityAnswer}
 use Rattle.lattice.specs.Lattice.{parityOf}
 use Rattle.root.specs.declared.Root.{Root}

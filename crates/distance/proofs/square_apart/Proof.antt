@@ -1,7 +1,7 @@
 -- The difference fits, so that it is read back from its bits as it is.
-use mathlib.Core.Path.{_≡_, ap, _∙_}
+use mathlib.Core.Path.{ap, _∙_}
 use lib.IntN.{ℤ, _-ℤ_}
-use lib.Ieee.{Float, binary64, ofInt, mul}
+use lib.Ieee.{binary64, ofInt, mul}
 use mir.Syntax.{w32}
 use mir.Val.{toZ, ofZ}
 use mir.Facts.{toZ-ofZ}

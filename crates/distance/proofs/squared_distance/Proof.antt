@@ -1,10 +1,7 @@
 -- The differences fit, as the test says, so that each square is that of the definition.
-use mathlib.Core.Path.{_≡_, sym, _∙_, subst}
-use lib.IntN.{_-ℤ_}
+use mathlib.Core.Path.{sym, _∙_, subst}
 use lib.Ieee.{binary64, add}
-use mir.Syntax.{w32}
-use mir.Val.{SFits}
-use Rattle.lattice.proofs.Fields.{read, kept, kept-same, fit}
+use Rattle.lattice.proofs.Fields.{read, kept}
 use Rattle.lattice.specs.Lattice.{Fit}
 use Rattle.distance.specs.Distance.{squareApart, squaredDistance}
 use Rattle.distance.specs.Laws.{difference, differences-fit}
