@@ -2,7 +2,7 @@
 ghost use mathlib.Core.Path.{_≡_};
 ghost use mathlib.Core.List.{map};
 ghost use Rattle.lattice.specs.Lattice.{at};
-ghost use Rattle.cell.specs.Cell.{frameOf, resolutionOf, exponentOf, flagsOf, reservedOf, xOf, yOf, zOf, coordOf, packed, newOf, latticeCoordOf, isPlain, sameCell, lessCell, orderOf, plainAt};
+ghost use Rattle.cell.specs.Cell.{frameOf, resolutionOf, exponentOf, flagsOf, reservedOf, xOf, yOf, zOf, coordOf, packed, newOf, latticeCoordOf, isPlain, sameCell, lessCell, orderOf, plainAt, noNeighbors, neighborsOf, noChildren, childrenOf};
 
 mod twos;
 
@@ -218,4 +218,83 @@ fn plain14(frame: u8, resolution: u8, places: [Coord; 14]) -> [Cell; 14]
         i += 1;
     }
     cells
+}
+
+fn no_neighbors(r: Refusal) -> Neighbors
+    ensures { λ n. ⌜ n ≡ noNeighbors r ⌝ }
+{
+    Neighbors {
+        outcome: Outcome::Refused(r),
+        cells: [ZERO; 14],
+    }
+}
+
+// Parity first, then room.
+pub fn get_neighbors(c: Cell) -> Neighbors
+    ensures { λ r. ⌜ r ≡ neighborsOf c ⌝ }
+{
+    let place = coord(c);
+    let parity = lattice::parity_of(place);
+    match parity {
+        ParityAnswer::Refused(r) => no_neighbors(r),
+        ParityAnswer::Is(_) => {
+            if lattice::has_neighbor_room(place) {
+                let cells = plain14(frame(c), resolution(c), lattice::around(place));
+                Neighbors {
+                    outcome: Outcome::Answered,
+                    cells,
+                }
+            } else {
+                no_neighbors(Refusal::CoordOverflow)
+            }
+        }
+    }
+}
+
+// The plain cells at 8 places.
+fn plain8(frame: u8, resolution: u8, places: [Coord; 8]) -> [Cell; 8]
+    ensures { λ r. ⌜ r ≡ map (plainAt frame resolution) places ⌝ }
+{
+    let mut cells = [ZERO; 8];
+    let mut i = 0;
+    while i < 8 {
+        cells[i] = packed(frame, resolution, places[i], 0, 0);
+        i += 1;
+    }
+    cells
+}
+
+fn no_children(r: Refusal) -> Children
+    ensures { λ n. ⌜ n ≡ noChildren r ⌝ }
+{
+    Children {
+        outcome: Outcome::Refused(r),
+        cells: [ZERO; 8],
+    }
+}
+
+// The finest resolution has none; then parity, then room.
+pub fn get_children(c: Cell) -> Children
+    ensures { λ r. ⌜ r ≡ childrenOf c ⌝ }
+{
+    let level = resolution(c);
+    if level == 255 {
+        return no_children(Refusal::NoChildren);
+    }
+    let place = coord(c);
+    let parity = lattice::parity_of(place);
+    match parity {
+        ParityAnswer::Refused(r) => no_children(r),
+        ParityAnswer::Is(_) => {
+            if lattice::has_child_room(place) {
+                let cells = plain8(frame(c), level + 1, lattice::below(place));
+                Children {
+                    outcome: Outcome::Answered,
+                    cells,
+                }
+            } else {
+                no_children(Refusal::CoordOverflow)
+            }
+        }
+    }
 }

@@ -8,9 +8,6 @@ use Rattle.cell.specs.Cell.{plainAt}
 use Rattle.cell.proofs.Filled.{Filled, filled-more, filled-all}
 use Rattle.cell.proofs.plain14.Statement.{statement}
 use Rattle.cell.proofs.plain14.Tie as tie
-use Rattle.cell.proofs.plain14.Reads as reads
-use Rattle.cell.proofs.plain14.Lts as lts
-use Rattle.cell.proofs.packed.Reads as packed-reads
 
 abbrev Inv-loop : tie.InvT-loop
 Inv-loop frame resolution places cells₀ i₀ cells i = Filled 14 (plainAt frame resolution) places cells i
