@@ -1,1 +1,2 @@
 pub mod Snap
+pub mod Ranges

@@ -4,7 +4,7 @@
 use mathlib.Core.Bool.{Bool, true, false, cond, _&&_}
 use Prim.Native.Nat.{ℕ}
 use lib.IntN.{ℤ, pos, _+ℤ_}
-use lib.Ieee.{Float, fin, binary64, ofInt, neg, add, sub, mul, div, le}
+use lib.Ieee.{Float, fin, binary64, ofInt, neg, add, sub, mul, div, le, toBits}
 use Rattle.refusal.specs.declared.Coord.{Coord}
 use Rattle.refusal.specs.declared.Refusal.{Refusal}
 use Rattle.refusal.specs.declared.Refusal.the-variants.{OutOfRange}
@@ -17,6 +17,9 @@ use Rattle.lattice.specs.Lattice.{at, parityOf}
 use Rattle.snap.specs.declared.Point.{Point}
 use Rattle.snap.specs.declared.PointAnswer.{PointAnswer}
 use Rattle.snap.specs.declared.PointAnswer.the-variants.{Is, Refused}
+use Rattle.snap.specs.declared.BitsOfPoint.{BitsOfPoint}
+use Rattle.snap.specs.declared.PointBits.{PointBits}
+use Rattle.snap.specs.declared.PointBits.the-variants as patterns
 
 abbrev pub point : Float → Float → Float → Point
 point x y z = record { x = x; y = y; z = z }
@@ -94,3 +97,16 @@ physicalBy (parity.Is p) c = Is (point (ofInt binary64 (c .x)) (ofInt binary64 (
 unfoldable pub physicalOf : Coord → PointAnswer
 unfolding parityOf ofInt
 physicalOf c = physicalBy (parityOf c) c
+
+-- ---- a physical point by its coordinates' bit patterns
+
+abbrev pub bitsOf : Point → BitsOfPoint
+bitsOf p = record { x = toBits binary64 (p .x); y = toBits binary64 (p .y); z = toBits binary64 (p .z) }
+
+abbrev pub bitsBy : PointAnswer → PointBits
+bitsBy (Is p) = patterns.Is (bitsOf p)
+bitsBy (Refused r) = patterns.Refused r
+
+unfoldable pub physicalBitsOf : Coord → PointBits
+unfolding physicalOf
+physicalBitsOf c = bitsBy (physicalOf c)
