@@ -2,11 +2,16 @@
 ghost use mathlib.Core.Path.{_≡_};
 ghost use mathlib.Core.List.{map};
 ghost use Rattle.lattice.specs.Lattice.{at};
-ghost use Rattle.cell.specs.Cell.{frameOf, resolutionOf, exponentOf, flagsOf, reservedOf, xOf, yOf, zOf, coordOf, packed, newOf, latticeCoordOf, isPlain, sameCell, lessCell, orderOf, plainAt, noNeighbors, neighborsOf, noChildren, childrenOf};
+ghost use Prim.Native.Nat.{_+_, _≤_};
+ghost use lib.ListN.{length};
+ghost use Rattle.cell.specs.Bytes.{cellAt, cellBytes, cellStored, fromBytesOf};
+ghost use Rattle.cell.specs.Cell.{frameOf, resolutionOf, exponentOf, flagsOf, reservedOf, xOf, yOf, zOf, coordOf, packed, newOf, latticeCoordOf, isPlain, sameCell, lessCell, orderOf, plainAt, noNeighbors, neighborsOf, noChildren, childrenOf, parentOf, ancestorOf, alike, betweenOf, manhattanCells};
 
 mod twos;
 
 use lattice::CoordAnswer;
+use lattice::NumberAnswer;
+use lattice::Parity;
 use lattice::ParityAnswer;
 use refusal::Cell;
 use refusal::Coord;
@@ -121,6 +126,14 @@ pub fn packed(frame: u8, resolution: u8, c: Coord, exponent: u8, flags: u8) -> C
     }
 }
 
+// The plain cell at a place.
+fn plain(frame: u8, resolution: u8, c: Coord) -> Cell
+    ensures { λ r. ⌜ r ≡ plainAt frame resolution c ⌝ }
+{
+    packed(frame, resolution, c, 0, 0)
+}
+
+// The cell of these fields, refused where the place is no lattice point.
 fn new_at(frame: u8, resolution: u8, c: Coord, exponent: u8, flags: u8) -> CellAnswer
     ensures { λ r. ⌜ r ≡ newOf frame resolution c exponent flags ⌝ }
 {
@@ -214,7 +227,7 @@ fn plain14(frame: u8, resolution: u8, places: [Coord; 14]) -> [Cell; 14]
     let mut cells = [ZERO; 14];
     let mut i = 0;
     while i < 14 {
-        cells[i] = packed(frame, resolution, places[i], 0, 0);
+        cells[i] = plain(frame, resolution, places[i]);
         i += 1;
     }
     cells
@@ -258,7 +271,7 @@ fn plain8(frame: u8, resolution: u8, places: [Coord; 8]) -> [Cell; 8]
     let mut cells = [ZERO; 8];
     let mut i = 0;
     while i < 8 {
-        cells[i] = packed(frame, resolution, places[i], 0, 0);
+        cells[i] = plain(frame, resolution, places[i]);
         i += 1;
     }
     cells
@@ -296,5 +309,129 @@ pub fn get_children(c: Cell) -> Children
                 no_children(Refusal::CoordOverflow)
             }
         }
+    }
+}
+
+// The coarsest resolution has none; then parity.
+pub fn parent(c: Cell) -> CellAnswer
+    ensures { λ r. ⌜ r ≡ parentOf c ⌝ }
+{
+    let level = resolution(c);
+    if level == 0 {
+        return CellAnswer::Refused(Refusal::NoParent);
+    }
+    let place = lattice::get_parent(coord(c));
+    match place {
+        CoordAnswer::Refused(r) => CellAnswer::Refused(r),
+        CoordAnswer::At(p) => CellAnswer::Is(plain(frame(c), level - 1, p)),
+    }
+}
+
+// The parent of the parent, until the target's resolution is reached.
+pub fn ancestor(c: Cell, target: u8) -> CellAnswer
+    ensures { λ r. ⌜ r ≡ ancestorOf c target ⌝ }
+{
+    let level = resolution(c);
+    if level < target {
+        return CellAnswer::Refused(Refusal::NoParent);
+    }
+    if level == target {
+        return CellAnswer::Is(c);
+    }
+    let up = parent(c);
+    match up {
+        CellAnswer::Refused(r) => CellAnswer::Refused(r),
+        CellAnswer::Is(p) => ancestor(p, target),
+    }
+}
+
+fn alike(p: Parity, q: Parity) -> bool
+    ensures { λ r. ⌜ r ≡ alike p q ⌝ }
+{
+    match p {
+        Parity::Even => match q {
+            Parity::Even => true,
+            Parity::Odd => false,
+        },
+        Parity::Odd => match q {
+            Parity::Even => false,
+            Parity::Odd => true,
+        },
+    }
+}
+
+// Nothing between cells of two resolutions or two parities; else it is only asked whether they are too far apart.
+pub fn cell_between(a: Cell, b: Cell) -> Between
+    ensures { λ r. ⌜ r ≡ betweenOf a b ⌝ }
+{
+    if resolution(a) != resolution(b) {
+        return Between::Nothing;
+    }
+    let here = coord(a);
+    let there = coord(b);
+    let first = lattice::parity_of(here);
+    let second = lattice::parity_of(there);
+    match first {
+        ParityAnswer::Refused(r) => Between::Refused(r),
+        ParityAnswer::Is(p) => match second {
+            ParityAnswer::Refused(r) => Between::Refused(r),
+            ParityAnswer::Is(q) => {
+                if alike(p, q) {
+                    let apart = lattice::manhattan_distance_to(there, here);
+                    match apart {
+                        NumberAnswer::Is(_) => Between::Nothing,
+                        NumberAnswer::Refused(r) => Between::Refused(r),
+                    }
+                } else {
+                    Between::Nothing
+                }
+            }
+        },
+    }
+}
+
+// That of the places.
+pub fn manhattan_distance_to(a: Cell, b: Cell) -> NumberAnswer
+    ensures { λ r. ⌜ r ≡ manhattanCells a b ⌝ }
+{
+    lattice::manhattan_distance_to(coord(a), coord(b))
+}
+
+// The cell that the 16 bytes at `at` make.
+pub fn read_at(s: &[u8], at: usize) -> Cell
+    requires { ⌜ at + 16 ≤ length (now s) ⌝ }
+    ensures { λ r. ⌜ r ≡ cellAt (now (s .entry)) at ⌝ }
+{
+    Cell {
+        high: words::read64_big(s, at),
+        low: words::read64_big(s, at + 8),
+    }
+}
+
+// Stores a cell's 16 bytes at `at`.
+pub fn write_at(s: &mut [u8], at: usize, c: Cell)
+    requires { ⌜ at + 16 ≤ length (now s) ⌝ }
+    ensures { λ _. ⌜ now (s .exit) ≡ cellStored (now (s .entry)) at c ⌝ }
+{
+    words::write64_big(s, at, c.high);
+    words::write64_big(s, at + 8, c.low);
+}
+
+pub fn to_bytes(c: Cell) -> [u8; 16]
+    ensures { λ r. ⌜ r ≡ cellBytes c ⌝ }
+{
+    let mut bytes = [0u8; 16];
+    write_at(&mut bytes, 0, c);
+    bytes
+}
+
+// Takes any 16 bytes.
+pub fn from_bytes(s: &[u8]) -> CellAnswer
+    ensures { λ r. ⌜ r ≡ fromBytesOf (now (s .entry)) ⌝ }
+{
+    if s.len() == 16 {
+        CellAnswer::Is(read_at(s, 0))
+    } else {
+        CellAnswer::Refused(Refusal::BadList)
     }
 }
