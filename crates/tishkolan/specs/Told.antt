@@ -27,30 +27,34 @@ use Rattle.lattice.specs.declared.NumberAnswer.the-variants as number
 use Rattle.lattice.specs.Lattice.{at}
 use Rattle.distance.specs.declared.DistanceAnswer.{DistanceAnswer}
 use Rattle.distance.specs.declared.DistanceAnswer.the-variants as distance
+use Rattle.snap.specs.declared.BitsOfPoint.{BitsOfPoint}
+use Rattle.snap.specs.declared.PointBits.{PointBits}
+use Rattle.snap.specs.declared.PointBits.the-variants as point
 use Rattle.tishkolan.specs.declared.told.RefusalTold.{RefusalTold}
 use Rattle.tishkolan.specs.declared.told.NumberTold.{NumberTold}
 use Rattle.tishkolan.specs.declared.told.BitsTold.{BitsTold}
 use Rattle.tishkolan.specs.declared.told.CoordTold.{CoordTold}
+use Rattle.tishkolan.specs.declared.told.PointTold.{PointTold}
 
 -- ---- refusals
 
-abbrev told : ℕ → ℕ → Coord → RefusalTold
-told n room c = record { number = n; room = room; x = c .x; y = c .y; z = c .z }
+abbrev pub telling : ℕ → ℕ → Coord → RefusalTold
+telling n room c = record { number = n; room = room; x = c .x; y = c .y; z = c .z }
 
-abbrev zeroCoord : Coord
+abbrev pub zeroCoord : Coord
 zeroCoord = at (pos 0) (pos 0) (pos 0)
 
 -- no refusal
 abbrev pub answered : RefusalTold
-answered = told 0 0 zeroCoord
+answered = telling 0 0 zeroCoord
 
 -- a refusal of which nothing but the number is told
 abbrev bare : Refusal → RefusalTold
-bare r = told (numberOf r) 0 zeroCoord
+bare r = telling (numberOf r) 0 zeroCoord
 
 -- 7, 8 and 12 carry more than these fields hold: the calls that give them have structs of their own
 abbrev pub toldOf : Refusal → RefusalTold
-toldOf (InvalidParity c) = told (numberOf (InvalidParity c)) 0 c
+toldOf (InvalidParity c) = telling (numberOf (InvalidParity c)) 0 c
 toldOf NoParent = bare NoParent
 toldOf NoChildren = bare NoChildren
 toldOf OutOfRange = bare OutOfRange
@@ -59,7 +63,7 @@ toldOf HasNan = bare HasNan
 toldOf (SearchLimitExceeded s) = bare (SearchLimitExceeded s)
 toldOf (NoPathFound e) = bare (NoPathFound e)
 toldOf CoordOverflow = bare CoordOverflow
-toldOf (NoRoom r) = told (numberOf (NoRoom r)) (roomOf r) zeroCoord
+toldOf (NoRoom r) = telling (numberOf (NoRoom r)) (roomOf r) zeroCoord
 toldOf BadWorkspace = bare BadWorkspace
 toldOf (BadFile p) = bare (BadFile p)
 toldOf BadList = bare BadList
@@ -105,6 +109,10 @@ abbrev pub ofCoord : CoordAnswer → CoordTold
 ofCoord (coord.At c) = record { refusal = answered; x = c .x; y = c .y; z = c .z }
 ofCoord (coord.Refused r) = record { refusal = toldOf r; x = pos 0; y = pos 0; z = pos 0 }
 
+abbrev pub ofPoint : PointBits → PointTold
+ofPoint (point.Is p) = record { refusal = answered; x = p .x; y = p .y; z = p .z }
+ofPoint (point.Refused r) = record { refusal = toldOf r; x = 0; y = 0; z = 0 }
+
 -- ---- answers into a lent buffer
 
 -- what a call says, and what stands in the buffer when it returns
@@ -115,7 +123,11 @@ pub record Filled (A : Type 0) : Type 0 where
 abbrev pub filled : {A : Type 0} → RefusalTold → List A → Filled A
 filled t l = record { told = t; out = l }
 
+-- l in place of as many elements at the front
+abbrev pub fronted : {A : Type 0} → List A → List A → List A
+fronted l out = l ++ drop (length l) out
+
 -- the answer l at the front, if there is room for it: NoRoom 3 otherwise
 abbrev pub fill : {A : Type 0} → Outcome → List A → List A → Filled A
 fill (outcome.Refused r) l out = filled (toldOf r) out
-fill outcome.Answered l out = cond (leb (length l) (length out)) (filled answered (l ++ drop (length l) out)) (filled (toldOf (NoRoom Output)) out)
+fill outcome.Answered l out = cond (leb (length l) (length out)) (filled answered (fronted l out)) (filled (toldOf (NoRoom Output)) out)
