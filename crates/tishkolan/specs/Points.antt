@@ -1,6 +1,6 @@
 -- The calls of the C face on points: the square root, the lattice, snap and the distances, each the definition of its crate, told to C. Definitions only. Assumes nothing.
 use mathlib.Core.Bool.{Bool, cond}
-use mathlib.Core.List.{List, [], _∷_}
+use mathlib.Core.List.{List, [], _∷_, flatMap}
 use Prim.Native.Nat.{ℕ}
 use lib.Dec.{eqb}
 use lib.IntN.{ℤ, pos}
@@ -15,15 +15,18 @@ use Rattle.tishkolan.specs.Told.{Filled, fill, numberTold, noNumber, par
 abbrev pub oppositeTold : ℕ → NumberTold
 oppositeTold n = cond (eqb n 0) (numberTold (parityNumber (oppositeOf Even))) (cond (eqb n 1) (numberTold (parityNumber (oppositeOf Odd))) (noNumber OutOfRange))
 
+-- x, y, z of a place
+abbrev pub triple : Coord → List ℤ
+triple c = c .x ∷ c .y ∷ c .z ∷ []
+
 -- x, y, z of each place in turn
-unfoldable pub triples : List Coord → List ℤ
-triples [] = []
-triples (c ∷ cs) = c .x ∷ c .y ∷ c .z ∷ triples cs
+abbrev pub triples : List Coord → List ℤ
+triples cs = flatMap triple cs
 
 unfoldable pub neighborsTold : Coord → List ℤ → Filled ℤ
-unfolding neighborsOf triples
+unfolding neighborsOf flatMap
 neighborsTold c out = let n = neighborsOf c in fill (n .outcome) (triples (n .coords)) out
 
 unfoldable pub childrenTold : Coord → List ℤ → Filled ℤ
-unfolding childrenOf triples
+unfolding childrenOf flatMap
 childrenTold c out = let n = childrenOf c in fill (n .outcome) (triples (n .coords)) out
