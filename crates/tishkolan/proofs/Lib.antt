@@ -1,3 +1,5 @@
 pub mod Refusals
 pub mod Writing
 pub mod Places
+pub mod Given
+pub mod Found

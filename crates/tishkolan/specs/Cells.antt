@@ -1,7 +1,7 @@
 -- The calls of the C face on cells: each takes a cell as its 16 bytes, refuses another length by BadList, and is then the definition of `cell`, told to C.
 -- Definitions only. Assumes nothing.
-use mathlib.Core.Bool.{Bool, cond}
-use mathlib.Core.List.{List, [], _∷_, _++_}
+use mathlib.Core.Bool.{cond}
+use mathlib.Core.List.{List, flatMap}
 use Prim.Native.Nat.{ℕ}
 use lib.IntN.{ℤ, pos, negsuc}
 use Rattle.refusal.specs.declared.Coord.{Coord}
@@ -18,6 +18,8 @@ use Rattle.cell.specs.declared.Between.the-variants as between
 use Rattle.cell.specs.Cell.{frameOf, resolutionOf, exponentOf, flagsOf, reservedOf, xOf, yOf, zOf, coordOf, latticeCoordOf, newOf, isPlain, orderOf, neighborsOf, childrenOf, parentOf, ancestorOf, betweenOf, manhattanCells}
 use Rattle.cell.specs.Bytes.{cellBytes, fromBytesOf}
 use Rattle.distance.specs.Distance.{distanceOf}
+use Rattle.tishkolan.specs.declared.cells.PairAnswer.{PairAnswer}
+use Rattle.tishkolan.specs.declared.cells.PairAnswer.the-variants as pair
 use Rattle.tishkolan.specs.declared.told.RefusalTold.{RefusalTold}
 use Rattle.tishkolan.specs.declared.told.NumberTold.{NumberTold}
 use Rattle.tishkolan.specs.declared.told.BitsTold.{BitsTold}
@@ -39,12 +41,15 @@ onCell f g l = byCell f g (fromBytesOf l)
 abbrev pub onCells : {A : Type 0} → (Refusal → A) → (Cell → Cell → A) → List ℕ → List ℕ → A
 onCells f g l m = onCell f (λ a. onCell f (g a) m) l
 
+-- both cells, or the refusal
+abbrev pub pairOf : List ℕ → List ℕ → PairAnswer
+pairOf l m = onCells pair.Refused (λ a b. pair.Are (record { first = a; second = b })) l m
+
 -- ---- cells into a lent buffer
 
-unfoldable pub cellsBytes : List Cell → List ℕ
-unfolding cellBytes
-cellsBytes [] = []
-cellsBytes (c ∷ cs) = cellBytes c ++ cellsBytes cs
+-- the bytes of each cell in turn
+abbrev pub cellsBytes : List Cell → List ℕ
+cellsBytes cs = flatMap cellBytes cs
 
 -- a refusal leaves the buffer
 abbrev pub kept : List ℕ → Refusal → Filled ℕ
@@ -59,11 +64,11 @@ unfolding newOf cellBytes
 newTold frame resolution c exponent flags out = fillCell out (newOf frame resolution c exponent flags)
 
 unfoldable pub neighborsTold : List ℕ → List ℕ → Filled ℕ
-unfolding fromBytesOf neighborsOf cellsBytes
+unfolding fromBytesOf neighborsOf flatMap cellBytes
 neighborsTold cell out = onCell (kept out) (λ c. let n = neighborsOf c in fill (n .outcome) (cellsBytes (n .cells)) out) cell
 
 unfoldable pub childrenTold : List ℕ → List ℕ → Filled ℕ
-unfolding fromBytesOf childrenOf cellsBytes
+unfolding fromBytesOf childrenOf flatMap cellBytes
 childrenTold cell out = onCell (kept out) (λ c. let n = childrenOf c in fill (n .outcome) (cellsBytes (n .cells)) out) cell
 
 unfoldable pub parentTold : List ℕ → List ℕ → Filled ℕ
@@ -90,7 +95,7 @@ fieldsOf c =
       reserved = reservedOf c;
       x = xOf c;
       y = yOf c;
-      z = zOf c
+      z = zOf c;
     }
 
 unfoldable pub fieldsTold : List ℕ → FieldsTold
