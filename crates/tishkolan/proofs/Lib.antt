@@ -3,3 +3,4 @@ pub mod Writing
 pub mod Places
 pub mod Given
 pub mod Found
+pub mod OneAnswer

@@ -66,15 +66,15 @@ pub struct FieldsTold {
 
 const NOWHERE: Coord = Coord { x: 0, y: 0, z: 0 };
 
-fn telling(number: u32, room: u32, c: Coord) -> RefusalTold
-    ensures { λ t. ⌜ t ≡ telling number room c ⌝ }
+fn telling(number: u32, room: u32, place: Coord) -> RefusalTold
+    ensures { λ t. ⌜ t ≡ telling number room place ⌝ }
 {
     RefusalTold {
         number,
         room,
-        x: c.x,
-        y: c.y,
-        z: c.z,
+        x: place.x,
+        y: place.y,
+        z: place.z,
     }
 }
 
