@@ -2,3 +2,4 @@ pub mod Cell
 pub mod Laws
 pub mod Bits
 pub mod Bytes
+pub mod Stored

@@ -1,0 +1,6 @@
+pub mod Refusals
+pub mod Writing
+pub mod Places
+pub mod Given
+pub mod Found
+pub mod OneAnswer
