@@ -1,4 +1,6 @@
 pub mod Cell
 pub mod Laws
+pub mod Ancestors
 pub mod Bits
 pub mod Bytes
+pub mod BytesLaws
