@@ -1,10 +1,10 @@
 -- A word taken apart into its fields and put together again, and two words as one number: lemmas for the laws and the proofs. Assumes nothing.
 use mathlib.Core.Path.{_≡_, refl, sym, ap, _∙_}
-use mathlib.Core.Bool.{Bool, true, false}
+use mathlib.Core.Bool.{Bool, true, false, cond}
 use Prim.Native.Nat.{ℕ, _+_, _*_, _/_, _%_, _^_, _<_}
 use native.Mathlib.Nat.{div-add-mod', div-div-eq-div-mul, div-eq-of-lt, mod-mod, mul-add-div-right, mul-le-mul-right, suc-mul}
 use native.Mathlib.Omega.{arith}
-use borrow.Author.Tests.{ltb-true, ltb-false, lt-ltb, le-ltb, eqb-true, eq-eqb, ne-eqb}
+use borrow.Author.Tests.{ltb-true, ltb-false, lt-ltb, le-ltb, eqb-true, eqb-false, eq-eqb, ne-eqb}
 use lib.Dec.{eqb, ltb}
 use lib.IntN.{ℤ}
 use mir.Syntax.{w32}
@@ -110,3 +110,11 @@ module _ (base a b c d : ℕ) (hb : b < base) (hd : d < base) where
 
   pub same-high : (a ≡ c → ⊥) → false ≡ eqb (a * base + b) (c * base + d)
   same-high apart = sym (ne-eqb (a * base + b) (c * base + d) (λ e. apart (same-digits e .0)))
+
+  less-where : (t : Bool) → eqb a c ≡ t → ltb (a * base + b) (c * base + d) ≡ cond t (ltb b d) (ltb a c)
+  less-where true e = sym (less-low base a b d ∙ ap (λ (h : ℕ). ltb (a * base + b) (h * base + d)) (eqb-true a c e))
+  less-where false e = sym (less-high (eqb-false a c e))
+
+  -- the first digits that differ decide
+  pub less-digits : ltb (a * base + b) (c * base + d) ≡ cond (eqb a c) (ltb b d) (ltb a c)
+  less-digits = less-where (eqb a c) refl

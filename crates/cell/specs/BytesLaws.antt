@@ -1,17 +1,24 @@
--- What follows from the definitions of a cell's bytes: a cell and its 16 bytes make each other again, alone and within a longer list. Assumes nothing.
-use mathlib.Core.Path.{_≡_, refl, sym, ap, _∙_}
-use mathlib.Core.List.{List, _++_, append-assoc, append-nil}
-use Prim.Native.Nat.{ℕ, _+_, _≤_}
+-- What follows from the definitions of a cell's bytes: a cell and its 16 bytes make each other again, alone and within a longer list, and cells are ordered as their bytes
+-- are. Assumes nothing.
+use mathlib.Core.Path.{_≡_, refl, sym, ap, ap₂, _∙_}
+use mathlib.Core.Bool.{Bool, cond}
+use mathlib.Core.List.{List, [], _∷_, _++_, append-assoc, append-nil}
+use Prim.Native.Nat.{ℕ, suc, _+_, _*_, _^_, _≤_}
+use native.Mathlib.Nat.{mul-comm}
 use native.Mathlib.Omega.{arith}
-use borrow.Author.Tests.{eq-eqb}
+use borrow.Author.Tests.{eq-eqb, le-ltb}
+use lib.Dec.{eqb, ltb}
 use lib.ListN.{length, take, drop, replicate, length-append, drop-of-length-le}
 use lib.Seq.{take-all, take-at, take-add, drop-drop, length-take-le}
 use Rattle.refusal.specs.declared.Cell.{Cell}
-use Rattle.words.specs.Word.{big, bytesOf, word, stored, Bytes, Apart}
-use Rattle.words.specs.Laws.{length-bytesOf, length-stored, stored-parts, drop-stored, word-stored, word-stored-apart, bytesOf-part}
+use Rattle.refusal.specs.Table.{rawOf}
+use Rattle.words.specs.Word.{big, number, ordered, bytesOf, word, stored, Bytes, Apart}
+use Rattle.words.specs.Laws.{length-bytesOf, length-stored, stored-parts, drop-stored, word-stored, word-stored-apart, bytesOf-part, word-drop, word-lt, word-split-big}
 use Rattle.cell.specs.declared.CellAnswer.the-variants.{Is}
-use Rattle.cell.specs.Bytes.{cellAt, cellBytes, cellStored, fromBytesOf}
+use Rattle.cell.specs.Bytes.{cellAt, cellBytes, cellStored, fromBytesOf, bytesLess}
+use Rattle.cell.specs.Cell.{lessCell}
 use Rattle.cell.specs.Laws.{Words}
+use Rattle.cell.specs.Bits.{less-digits}
 
 pub length-cellBytes : (c : Cell) → length (cellBytes c) ≡ 16
 unfolding cellBytes
@@ -88,3 +95,41 @@ cell-bytes-part l p h b =
 -- write after read
 pub read-bytes-back : (l : List ℕ) → length l ≡ 16 → Bytes l → cellBytes (cellAt l 0) ≡ l
 read-bytes-back l e b = cell-bytes-part l 0 (omega arith) b ∙ take-all 16 l (omega arith)
+
+-- ---- the order
+
+first-byte : (a : ℕ) (l : List ℕ) → word big 1 (a ∷ l) 0 ≡ a
+unfolding word ordered number
+first-byte a l = omega arith
+
+word-cons : (n a : ℕ) (l : List ℕ) → length l ≡ n → word big (suc n) (a ∷ l) 0 ≡ a * 256 ^ n + word big n l 0
+word-cons n a l e =
+    let size : suc n ≡ 1 + n = omega arith in
+    ap (λ (k : ℕ). word big k (a ∷ l) 0) size
+    ∙ word-split-big 1 n (a ∷ l) 0 (omega arith)
+    ∙ ap₂ (λ (low high : ℕ). low + 256 ^ n * high) (sym (word-drop big n (a ∷ l) 1 0)) (first-byte a l)
+    ∙ omega (arith, mul-comm a (256 ^ n))
+
+words-ordered : (l m : List ℕ) → length m ≡ length l → Bytes l → Bytes m → ltb (word big (length l) l 0) (word big (length l) m 0) ≡ bytesLess l m
+unfolding bytesLess
+words-ordered [] [] e f g = le-ltb (word big 0 [] 0) (word big 0 [] 0) (omega arith)
+words-ordered [] (b ∷ m) e f g = absurd (omega arith)
+words-ordered (a ∷ l) [] e f g = absurd (omega arith)
+words-ordered (a ∷ l) (b ∷ m) e f g =
+    let n = length l in
+    let rest-l : Bytes l = λ i. f (suc i) in
+    let rest-m : Bytes m = λ i. g (suc i) in
+    ap₂ ltb (word-cons n a l refl) (word-cons n b m (omega arith))
+    ∙ less-digits (256 ^ n) a (word big n l 0) b (word big n m 0) (word-lt big n l 0 rest-l) (word-lt big n m 0 rest-m)
+    ∙ ap (λ (t : Bool). cond (eqb a b) t (ltb a b)) (words-ordered l m (omega arith) rest-l rest-m)
+
+raw-word : (l : List ℕ) → length l ≡ 16 → rawOf (cellAt l 0) ≡ word big 16 l 0
+unfolding rawOf cellAt
+raw-word l e = omega (arith, word-split-big 8 8 l 0 (omega arith))
+
+-- cells are ordered as their bytes are
+pub order-bytes : (l m : List ℕ) → length l ≡ 16 → length m ≡ 16 → Bytes l → Bytes m → lessCell (cellAt l 0) (cellAt m 0) ≡ bytesLess l m
+order-bytes l m e f g h =
+    ap₂ ltb (raw-word l e) (raw-word m f)
+    ∙ ap (λ (n : ℕ). ltb (word big n l 0) (word big n m 0)) (sym e)
+    ∙ words-ordered l m (f ∙ sym e) g h
