@@ -5,10 +5,11 @@ ghost use Prim.Native.Nat.{_+_, _≤_};
 ghost use lib.ListN.{length};
 ghost use Rattle.lattice.specs.Lattice.{at};
 ghost use Rattle.cell.specs.Bytes.{cellAt, cellBytes, cellStored, fromBytesOf};
-ghost use Rattle.cell.specs.Cell.{frameOf, resolutionOf, exponentOf, flagsOf, reservedOf, xOf, yOf, zOf, coordOf, packed, newOf, latticeCoordOf, isPlain, sameCell, lessCell, orderOf, plainAt, noNeighbors, neighborsOf, noChildren, childrenOf, parentOf, ancestorOf, alike, betweenOf, manhattanCells};
+ghost use Rattle.cell.specs.Cell.{frameOf, resolutionOf, exponentOf, flagsOf, reservedOf, xOf, yOf, zOf, coordOf, packed, newOf, latticeCoordOf, isPlain, sameCell, lessCell, orderOf, plainAt, noNeighbors, neighborsOf, noChildren, childrenOf, parentOf, ancestorOf, alike, betweenOf, manhattanCells, distanceCells};
 
 mod twos;
 
+use distance::DistanceAnswer;
 use lattice::CoordAnswer;
 use lattice::NumberAnswer;
 use lattice::Parity;
@@ -402,6 +403,13 @@ pub fn manhattan_distance_to(a: Cell, b: Cell) -> NumberAnswer
     ensures { λ r. ⌜ r ≡ manhattanCells a b ⌝ }
 {
     lattice::manhattan_distance_to(coord(a), coord(b))
+}
+
+// The Euclidean distance of two cells is that of their places.
+pub fn distance_to(a: Cell, b: Cell) -> DistanceAnswer
+    ensures { λ r. ⌜ r ≡ distanceCells a b ⌝ }
+{
+    distance::distance_to(coord(a), coord(b))
 }
 
 // The cell that the 16 bytes at `at` make.
