@@ -1,21 +1,21 @@
--- What follows from the definitions of the packed cell alone: packing and unpacking undo each other. Assumes nothing.
+-- What follows from the definitions of the packed cell alone: packing and unpacking undo each other, plain cells, children and parents, neighbours, equality.
+-- `List·Memᴰ k l` says that k is a member of l: it is a place at which l has k. Assumes nothing.
 use mathlib.Core.Path.{_≡_, refl, sym, ap, ap₂, subst, _∙_}
 use mathlib.Core.Logic.{_↔_}
 use mathlib.Core.Bool.{Bool, true, false, cond, _&&_}
-use mathlib.Core.List.{List, List·Memᴰ, Memᴰ·cast, Memᴰ·map, Memᴰ·of-map}
+use mathlib.Core.List.{List·Memᴰ, Memᴰ·cast, Memᴰ·map, Memᴰ·of-map}
 use Prim.Native.Nat.{ℕ, _+_, _*_, _/_, _%_, _^_, _<_}
-use native.Mathlib.Nat.{div-add-mod', div-div-eq-div-mul, mod-mod}
+use native.Mathlib.Nat.{div-add-mod'}
 use native.Mathlib.Omega.{arith}
 use lib.Dec.{eqb}
 use borrow.Author.Tests.{eqb-true, eqb-false, ne-eqb}
 use mir.Syntax.{w32}
-use mir.Val.{Fits, SFits, toZ, ofZ}
+use mir.Val.{Fits, toZ, ofZ}
 use mir.Facts.{fits-ofZ, toZ-ofZ, ofZ-toZ, sfits-toZ}
 use Rattle.refusal.specs.declared.Coord.{Coord}
 use Rattle.refusal.specs.declared.Cell.{Cell}
 use Rattle.refusal.specs.declared.Refusal.{Refusal}
 use Rattle.refusal.specs.declared.Refusal.the-variants.{NoParent, NoChildren, CoordOverflow}
-use Rattle.refusal.specs.declared.Outcome.{Outcome}
 use Rattle.refusal.specs.declared.Outcome.the-variants as outcome
 use Rattle.refusal.specs.Table.{rawOf}
 use Rattle.lattice.specs.declared.Parity.{Parity}
@@ -24,14 +24,16 @@ use Rattle.lattice.specs.declared.ParityAnswer.the-variants as parity
 use Rattle.lattice.specs.declared.CoordAnswer.{CoordAnswer}
 use Rattle.lattice.specs.declared.CoordAnswer.the-variants as coord
 use Rattle.lattice.specs.Lattice as lattice
-use Rattle.lattice.specs.Lattice.{at, isLatticePoint, parityOf, around, below, hasNeighborRoom, hasChildRoom}
+use Rattle.lattice.specs.Lattice.{at, isLatticePoint, parityOf, around, below, hasNeighborRoom, hasChildRoom, manhattan}
 use Rattle.lattice.specs.Laws as lattice-laws
-use Rattle.lattice.specs.Laws.{Fitting, parity-point, neighbor-symmetric, room-fits, child-room-fits}
+use Rattle.lattice.specs.Laws.{parity-point, neighbor-symmetric, room-fits, child-room-fits}
+use Rattle.lattice.specs.Fitting.{Fitting}
+use Rattle.lattice.specs.Middle.{middle}
 use Rattle.lattice.specs.Signs.{both}
-use Rattle.cell.specs.declared.CellAnswer.{CellAnswer}
 use Rattle.cell.specs.declared.CellAnswer.the-variants.{Is, Refused}
-use Rattle.cell.specs.Cell.{frameOf, resolutionOf, exponentOf, flagsOf, reservedOf, coordOf, packed, newBy, newOf, isPlain, plainAt, plainTwin, sameCell, nearCells, childCells, noChildren, childrenIn, childrenBy, childrenOf, parentAt, parentOf}
 use Rattle.cell.specs.declared.Children.{Children}
+use Rattle.cell.specs.Cell.{frameOf, resolutionOf, exponentOf, flagsOf, reservedOf, coordOf, packed, newBy, newOf, isPlain, plainAt, plainTwin, sameCell, nearCells, childCells, noChildren, childrenIn, childrenBy, childrenOf, parentAt, parentOf}
+use Rattle.cell.specs.Bits.{lowWord, low-parts, high-parts, low-whole, high-of, low-of}
 
 -- a cell as the code holds it: two words of 64 bits
 pub record Words (c : Cell) : Type 0 where
@@ -47,40 +49,6 @@ pub record ReadsBack (frame resolution : ℕ) (c : Coord) (exponent flags : ℕ)
   pub flags-back : flagsOf k ≡ flags
   pub reserved-back : reservedOf k ≡ 0
   pub words : Words k
-
--- ---- a word taken apart
-
-abbrev lowWord : ℕ → ℕ → ℕ → ℕ → ℕ → ℕ
-lowWord x flags exponent resolution frame = (((x * 16 * 256 + flags) * 16 + exponent % 16) * 256 + resolution) * 256 + frame
-
-record LowParts (x flags exponent resolution frame word : ℕ) : Type 0 where
-  is-frame : word % 256 ≡ frame
-  is-resolution : word / 256 % 256 ≡ resolution
-  is-exponent : word / 65536 % 16 ≡ exponent % 16
-  is-flags : word / 1048576 % 256 ≡ flags
-  is-reserved : word / 268435456 % 16 ≡ 0
-  is-x : word / 4294967296 ≡ x
-  is-word : word < 2 ^ 64
-
-low-parts : (x flags exponent resolution frame : ℕ) → x < 2 ^ 32 → flags < 256 → resolution < 256 → frame < 256 → LowParts x flags exponent resolution frame (lowWord x flags exponent resolution frame)
-low-parts x flags exponent resolution frame hx hg hr hf =
-    record {
-      is-frame = omega arith;
-      is-resolution = omega arith;
-      is-exponent = omega arith;
-      is-flags = omega arith;
-      is-reserved = omega arith;
-      is-x = omega arith;
-      is-word = omega arith;
-    }
-
-record HighParts (z y word : ℕ) : Type 0 where
-  is-z : word / 4294967296 ≡ z
-  is-y : word % 4294967296 ≡ y
-  is-word : word < 2 ^ 64
-
-high-parts : (z y : ℕ) → z < 2 ^ 32 → y < 2 ^ 32 → HighParts z y (z * 4294967296 + y)
-high-parts z y hz hy = record { is-z = omega arith; is-y = omega arith; is-word = omega arith }
 
 -- ---- packing and unpacking
 
@@ -100,27 +68,26 @@ fields-packed frame resolution c exponent flags hf hr hg fits =
       words = record { high-word = h .is-word; low-word = l .is-word };
     }
 
--- one digit to the base k, above the m lowest
-digit : (n m k : ℕ) → n / m ≡ n / (m * k) * k + n / m % k
-digit n m k = rw (← div-div-eq-div-mul) (sym (div-add-mod' (n / m) k))
+x-bits : (c : Cell) → Words c → Fits w32 (c .low / 4294967296)
+x-bits c w = record { fits = omega arith }
 
-glue : (x g e r f : ℕ) {n n8 n16 n20 n28 : ℕ} → n28 ≡ x * 16 + 0 → n20 ≡ n28 * 256 + g → n16 ≡ n20 * 16 + e → n8 ≡ n16 * 256 + r → n ≡ n8 * 256 + f → (((x * 16 * 256 + g) * 16 + e) * 256 + r) * 256 + f ≡ n
-glue x g e r f h₁ h₂ h₃ h₄ h₅ = omega arith
+y-bits : (c : Cell) → Fits w32 (c .high % 4294967296)
+y-bits c = record { fits = omega arith }
 
-low-whole : (n : ℕ) → n / 268435456 % 16 ≡ 0 → lowWord (n / 4294967296) (n / 1048576 % 256) (n / 65536 % 16) (n / 256 % 256) (n % 256) ≡ n
-low-whole n e =
-    rw mod-mod
-    (glue (n / 4294967296) (n / 1048576 % 256) (n / 65536 % 16) (n / 256 % 256) (n % 256) (digit n 268435456 16 ∙ ap (λ (r : ℕ). n / 4294967296 * 16 + r) e) (digit n 1048576 256) (digit n 65536 16) (digit n 256 256) (sym (div-add-mod' n 256)))
+z-bits : (c : Cell) → Words c → Fits w32 (c .high / 4294967296)
+z-bits c w = record { fits = omega arith }
+
+-- 32 bits hold each coordinate of a cell
+pub coord-fits : (c : Cell) → Words c → Fitting (coordOf c)
+unfolding coordOf
+coord-fits c w = record { in-x = sfits-toZ (x-bits c w); in-y = sfits-toZ (y-bits c); in-z = sfits-toZ (z-bits c w) }
 
 -- pack after unpack: a cell with nothing reserved is the cell of its fields
 pub packed-fields : (c : Cell) → Words c → reservedOf c ≡ 0 → packed (frameOf c) (resolutionOf c) (coordOf c) (exponentOf c) (flagsOf c) ≡ c
 unfolding packed coordOf
 packed-fields c w e =
-    let x : Fits w32 (c .low / 4294967296) = record { fits = omega arith } in
-    let y : Fits w32 (c .high % 4294967296) = record { fits = omega arith } in
-    let z : Fits w32 (c .high / 4294967296) = record { fits = omega arith } in
-    let low : lowWord (ofZ w32 (toZ w32 (c .low / 4294967296))) (flagsOf c) (exponentOf c) (resolutionOf c) (frameOf c) ≡ c .low = rw (ofZ-toZ x) (low-whole (c .low) e) in
-    let high : ofZ w32 (toZ w32 (c .high / 4294967296)) * 4294967296 + ofZ w32 (toZ w32 (c .high % 4294967296)) ≡ c .high = rw (ofZ-toZ z, ofZ-toZ y) (div-add-mod' (c .high) 4294967296) in
+    let low : lowWord (ofZ w32 (toZ w32 (c .low / 4294967296))) (flagsOf c) (exponentOf c) (resolutionOf c) (frameOf c) ≡ c .low = rw (ofZ-toZ (x-bits c w)) (low-whole (c .low) e) in
+    let high : ofZ w32 (toZ w32 (c .high / 4294967296)) * 4294967296 + ofZ w32 (toZ w32 (c .high % 4294967296)) ≡ c .high = rw (ofZ-toZ (z-bits c w), ofZ-toZ (y-bits c)) (div-add-mod' (c .high) 4294967296) in
     λ i. record { high = high i; low = low i }
 
 -- so `new` makes such a cell again from its fields, if its place is a lattice point
@@ -186,7 +153,7 @@ child-parent c k h m =
 pub plain-child-parent : (c k : Cell) → Words c → isPlain c ≡ true → HasChildren c → List·Memᴰ k (childCells c) → parentOf k ≡ Is c
 plain-child-parent c k w e h m = child-parent c k h m ∙ ap Is (plain-twin c w e)
 
--- a cell whose children are answered has children, and the answer holds them
+-- an answer that holds the children of a cell that has them
 pub record Answers (c : Cell) (a : Children) : Type 0 where
   pub has : HasChildren c
   pub are : a .cells ≡ childCells c
@@ -209,9 +176,14 @@ answered : (c : Cell) (t : Bool) → eqb (resolutionOf c) 255 ≡ t → (cond t 
 answered c true q e = absurd (refused-answered NoChildren e)
 answered c false q e = answered-by c (parityOf (coordOf c)) refl (not-finest (resolutionOf c) (omega arith) (eqb-false (resolutionOf c) 255 q)) e
 
+-- where `children` answers, the cell has children, and the answer holds them
 pub children-answered : (c : Cell) → childrenOf c .outcome ≡ outcome.Answered → Answers c (childrenOf c)
 unfolding childrenOf
 children-answered c e = answered c (eqb (resolutionOf c) 255) refl e
+
+-- so of each child that is answered, the parent is the cell's plain twin
+pub answered-child-parent : (c k : Cell) → childrenOf c .outcome ≡ outcome.Answered → List·Memᴰ k (childrenOf c .cells) → parentOf k ≡ Is (plainTwin c)
+answered-child-parent c k e m = let a = children-answered c e in child-parent c k (a .has) (subst (List·Memᴰ k) (a .are) m)
 
 -- ---- neighbours
 
@@ -233,12 +205,6 @@ neighborhood c n wc wn pc pn rc rn = (near-back c n wc pc rc, near-back n c wn p
 
 -- ---- the order
 
-high-of : (h l : ℕ) → l < 2 ^ 64 → (h * 2 ^ 64 + l) / 2 ^ 64 ≡ h
-high-of h l p = omega arith
-
-low-of : (h l : ℕ) → l < 2 ^ 64 → (h * 2 ^ 64 + l) % 2 ^ 64 ≡ l
-low-of h l p = omega arith
-
 -- cells with the same 128 bits are the same cell
 pub same-cell : (a b : Cell) → Words a → Words b → sameCell a b ≡ true → a ≡ b
 unfolding rawOf
@@ -247,3 +213,9 @@ same-cell a b v w e =
     let high : a .high ≡ b .high = sym (high-of (a .high) (a .low) (v .low-word)) ∙ ap (λ (n : ℕ). n / 2 ^ 64) r ∙ high-of (b .high) (b .low) (w .low-word) in
     let low : a .low ≡ b .low = sym (low-of (a .high) (a .low) (v .low-word)) ∙ ap (λ (n : ℕ). n % 2 ^ 64) r ∙ low-of (b .high) (b .low) (w .low-word) in
     λ i. record { high = high i; low = low i }
+
+-- ---- between two cells
+
+-- why `cell_between` never finds a cell: half way between two cells of one parity at Manhattan distance 2 there is no lattice point
+pub between-is-mixed : (a b : Cell) (p : Parity) → parityOf (coordOf a) ≡ parity.Is p → parityOf (coordOf b) ≡ parity.Is p → manhattan (coordOf a) (coordOf b) ≡ 2 → isLatticePoint (middle (coordOf a) (coordOf b)) ≡ false
+between-is-mixed a b p e f m = lattice-laws.between-is-mixed (coordOf a) (coordOf b) p e f m

@@ -1,2 +1,4 @@
 pub mod Cell
 pub mod Laws
+pub mod Bits
+pub mod Bytes

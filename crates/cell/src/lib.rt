@@ -1,18 +1,24 @@
 // The packed cell: 128 bits that name a frame, a resolution and a place of the lattice, with an exponent and flags.
 ghost use mathlib.Core.Path.{_≡_};
 ghost use mathlib.Core.List.{map};
+ghost use Prim.Native.Nat.{_+_, _≤_};
+ghost use lib.ListN.{length};
 ghost use Rattle.lattice.specs.Lattice.{at};
-ghost use Rattle.cell.specs.Cell.{frameOf, resolutionOf, exponentOf, flagsOf, reservedOf, xOf, yOf, zOf, coordOf, packed, newOf, latticeCoordOf, isPlain, sameCell, lessCell, orderOf, plainAt, noNeighbors, neighborsOf, noChildren, childrenOf};
+ghost use Rattle.cell.specs.Bytes.{cellAt, cellBytes, cellStored, fromBytesOf};
+ghost use Rattle.cell.specs.Cell.{frameOf, resolutionOf, exponentOf, flagsOf, reservedOf, xOf, yOf, zOf, coordOf, packed, newOf, latticeCoordOf, isPlain, sameCell, lessCell, orderOf, plainAt, noNeighbors, neighborsOf, noChildren, childrenOf, parentOf, ancestorOf, alike, betweenOf, manhattanCells};
 
 mod twos;
 
 use lattice::CoordAnswer;
+use lattice::NumberAnswer;
+use lattice::Parity;
 use lattice::ParityAnswer;
 use refusal::Cell;
 use refusal::Coord;
 use refusal::Outcome;
 use refusal::Refusal;
 
+// A cell, or why there is none.
 pub enum CellAnswer {
     Is(Cell),
     Refused(Refusal),
@@ -64,6 +70,7 @@ pub fn exponent(c: Cell) -> u8
     (c.low / 65536 % 16) as u8
 }
 
+// What is marked of the cell, a bit each.
 pub fn flags(c: Cell) -> u8
     ensures { λ r. ⌜ r ≡ flagsOf c ⌝ }
 {
@@ -77,6 +84,7 @@ pub fn reserved(c: Cell) -> u8
     (c.low / 268435456 % 16) as u8
 }
 
+// The coordinates, in two's complement.
 pub fn x(c: Cell) -> i32
     ensures { λ r. ⌜ r ≡ xOf c ⌝ }
 {
@@ -121,6 +129,13 @@ pub fn packed(frame: u8, resolution: u8, c: Coord, exponent: u8, flags: u8) -> C
     }
 }
 
+// The plain cell at a place.
+fn plain(frame: u8, resolution: u8, c: Coord) -> Cell
+    ensures { λ r. ⌜ r ≡ plainAt frame resolution c ⌝ }
+{
+    packed(frame, resolution, c, 0, 0)
+}
+
 fn new_at(frame: u8, resolution: u8, c: Coord, exponent: u8, flags: u8) -> CellAnswer
     ensures { λ r. ⌜ r ≡ newOf frame resolution c exponent flags ⌝ }
 {
@@ -131,18 +146,21 @@ fn new_at(frame: u8, resolution: u8, c: Coord, exponent: u8, flags: u8) -> CellA
     }
 }
 
+// The cell of these fields, refused where the place is no lattice point.
 pub fn new(frame: u8, resolution: u8, x: i32, y: i32, z: i32, exponent: u8, flags: u8) -> CellAnswer
     ensures { λ r. ⌜ r ≡ newOf frame resolution (at x y z) exponent flags ⌝ }
 {
     new_at(frame, resolution, Coord { x, y, z }, exponent, flags)
 }
 
+// The plain cell at three coordinates, refused where they are no lattice point.
 pub fn from_coords(frame: u8, resolution: u8, x: i32, y: i32, z: i32) -> CellAnswer
     ensures { λ r. ⌜ r ≡ newOf frame resolution (at x y z) 0 0 ⌝ }
 {
     new(frame, resolution, x, y, z, 0, 0)
 }
 
+// The plain cell at a place, refused where it is no lattice point.
 pub fn from_lattice_coord(frame: u8, resolution: u8, c: Coord) -> CellAnswer
     ensures { λ r. ⌜ r ≡ newOf frame resolution c 0 0 ⌝ }
 {
@@ -193,6 +211,7 @@ pub fn less(a: Cell, b: Cell) -> bool
     a.high < b.high
 }
 
+// The order of the 128 bits as one number.
 pub fn compare(a: Cell, b: Cell) -> Order
     ensures { λ r. ⌜ r ≡ orderOf a b ⌝ }
 {
@@ -214,7 +233,7 @@ fn plain14(frame: u8, resolution: u8, places: [Coord; 14]) -> [Cell; 14]
     let mut cells = [ZERO; 14];
     let mut i = 0;
     while i < 14 {
-        cells[i] = packed(frame, resolution, places[i], 0, 0);
+        cells[i] = plain(frame, resolution, places[i]);
         i += 1;
     }
     cells
@@ -229,7 +248,7 @@ fn no_neighbors(r: Refusal) -> Neighbors
     }
 }
 
-// Parity first, then room.
+// The 14 plain cells around a cell, of its frame and resolution. Parity first, then room.
 pub fn get_neighbors(c: Cell) -> Neighbors
     ensures { λ r. ⌜ r ≡ neighborsOf c ⌝ }
 {
@@ -258,7 +277,7 @@ fn plain8(frame: u8, resolution: u8, places: [Coord; 8]) -> [Cell; 8]
     let mut cells = [ZERO; 8];
     let mut i = 0;
     while i < 8 {
-        cells[i] = packed(frame, resolution, places[i], 0, 0);
+        cells[i] = plain(frame, resolution, places[i]);
         i += 1;
     }
     cells
@@ -273,7 +292,7 @@ fn no_children(r: Refusal) -> Children
     }
 }
 
-// The finest resolution has none; then parity, then room.
+// The 8 plain cells below a cell, one resolution finer. The finest has none; then parity, then room.
 pub fn get_children(c: Cell) -> Children
     ensures { λ r. ⌜ r ≡ childrenOf c ⌝ }
 {
@@ -296,5 +315,131 @@ pub fn get_children(c: Cell) -> Children
                 no_children(Refusal::CoordOverflow)
             }
         }
+    }
+}
+
+// The plain cell above a cell, one resolution coarser. The coarsest has none; then parity.
+pub fn parent(c: Cell) -> CellAnswer
+    ensures { λ r. ⌜ r ≡ parentOf c ⌝ }
+{
+    let level = resolution(c);
+    if level == 0 {
+        return CellAnswer::Refused(Refusal::NoParent);
+    }
+    let place = lattice::get_parent(coord(c));
+    match place {
+        CoordAnswer::Refused(r) => CellAnswer::Refused(r),
+        CoordAnswer::At(p) => CellAnswer::Is(plain(frame(c), level - 1, p)),
+    }
+}
+
+// The parent of the parent, until the target's resolution is reached. A finer target is refused; a cell's own gives the cell.
+pub fn ancestor(c: Cell, target: u8) -> CellAnswer
+    ensures { λ r. ⌜ r ≡ ancestorOf c target ⌝ }
+{
+    let level = resolution(c);
+    if level < target {
+        return CellAnswer::Refused(Refusal::NoParent);
+    }
+    if level == target {
+        return CellAnswer::Is(c);
+    }
+    let up = parent(c);
+    match up {
+        CellAnswer::Refused(r) => CellAnswer::Refused(r),
+        CellAnswer::Is(p) => ancestor(p, target),
+    }
+}
+
+// Two points of one parity.
+fn alike(p: Parity, q: Parity) -> bool
+    ensures { λ r. ⌜ r ≡ alike p q ⌝ }
+{
+    match p {
+        Parity::Even => match q {
+            Parity::Even => true,
+            Parity::Odd => false,
+        },
+        Parity::Odd => match q {
+            Parity::Even => false,
+            Parity::Odd => true,
+        },
+    }
+}
+
+// Nothing between cells of two resolutions or two parities; else it is only asked whether they are too far apart.
+pub fn cell_between(a: Cell, b: Cell) -> Between
+    ensures { λ r. ⌜ r ≡ betweenOf a b ⌝ }
+{
+    if resolution(a) != resolution(b) {
+        return Between::Nothing;
+    }
+    let here = coord(a);
+    let there = coord(b);
+    let first = lattice::parity_of(here);
+    let second = lattice::parity_of(there);
+    match first {
+        ParityAnswer::Refused(r) => Between::Refused(r),
+        ParityAnswer::Is(p) => match second {
+            ParityAnswer::Refused(r) => Between::Refused(r),
+            ParityAnswer::Is(q) => {
+                if alike(p, q) {
+                    let apart = lattice::manhattan_distance_to(there, here);
+                    match apart {
+                        NumberAnswer::Is(_) => Between::Nothing,
+                        NumberAnswer::Refused(r) => Between::Refused(r),
+                    }
+                } else {
+                    Between::Nothing
+                }
+            }
+        },
+    }
+}
+
+// The Manhattan distance of two cells is that of their places.
+pub fn manhattan_distance_to(a: Cell, b: Cell) -> NumberAnswer
+    ensures { λ r. ⌜ r ≡ manhattanCells a b ⌝ }
+{
+    lattice::manhattan_distance_to(coord(a), coord(b))
+}
+
+// The cell that the 16 bytes at `at` make.
+pub fn read_at(s: &[u8], at: usize) -> Cell
+    requires { ⌜ at + 16 ≤ length (now s) ⌝ }
+    ensures { λ r. ⌜ r ≡ cellAt (now (s .entry)) at ⌝ }
+{
+    Cell {
+        high: words::read64_big(s, at),
+        low: words::read64_big(s, at + 8),
+    }
+}
+
+// Stores a cell's 16 bytes at `at`.
+pub fn write_at(s: &mut [u8], at: usize, c: Cell)
+    requires { ⌜ at + 16 ≤ length (now s) ⌝ }
+    ensures { λ _. ⌜ now (s .exit) ≡ cellStored (now (s .entry)) at c ⌝ }
+{
+    words::write64_big(s, at, c.high);
+    words::write64_big(s, at + 8, c.low);
+}
+
+// A cell's 16 bytes, the highest first.
+pub fn to_bytes(c: Cell) -> [u8; 16]
+    ensures { λ r. ⌜ r ≡ cellBytes c ⌝ }
+{
+    let mut bytes = [0u8; 16];
+    write_at(&mut bytes, 0, c);
+    bytes
+}
+
+// The cell of 16 bytes, whatever they are.
+pub fn from_bytes(s: &[u8]) -> CellAnswer
+    ensures { λ r. ⌜ r ≡ fromBytesOf (now (s .entry)) ⌝ }
+{
+    if s.len() == 16 {
+        CellAnswer::Is(read_at(s, 0))
+    } else {
+        CellAnswer::Refused(Refusal::BadList)
     }
 }

@@ -2,3 +2,5 @@ pub mod Signs
 pub mod Fields
 pub mod Room
 pub mod Answers
+pub mod Points
+pub mod OneAnswer

@@ -1,11 +1,11 @@
 -- Where there is room, each step of a table fits. Assumes nothing.
-use mathlib.Core.Path.{_≡_, refl, sym, subst}
-use mathlib.Core.Bool.{Bool, true, false, _&&_}
+use mathlib.Core.Path.{_≡_, refl}
+use mathlib.Core.Bool.{Bool, true, _&&_}
 use mathlib.Core.List.{List, [], _∷_}
-use Prim.Native.Nat.{ℕ, zero, suc, _≤_}
+use Prim.Native.Nat.{ℕ, zero, suc}
 use native.Mathlib.Omega.{arith}
-use lib.Dec.{T, leb}
-use lib.IntN.{ℤ, pos, negsuc, natAbs, _+ℤ_}
+use lib.Dec.{leb}
+use lib.IntN.{ℤ, pos, negsuc, _+ℤ_}
 use lib.ListN.{getD}
 use mir.Syntax.{w32}
 use mir.Val.{SFits}
@@ -23,6 +23,7 @@ every f (d ∷ l) = f d && every f l
 abbrev pub origin : Coord
 origin = at (pos 0) (pos 0) (pos 0)
 
+-- what a test says of every entry it says of the entry at k, and past the end of no step
 each : (f : Coord → Bool) → f origin ≡ true → (l : List Coord) → every f l ≡ true → (k : ℕ) → f (getD l k origin) ≡ true
 each f o [] e k = o
 each f o (d ∷ l) e zero = both (f d) (every f l) e .0
@@ -113,6 +114,7 @@ lower c e k =
 
 -- ---- parent
 
+-- halves have room, so that one more or one less fits
 pub halves-near : (c : Coord) → Fit c → hasNeighborRoom (halves c) ≡ true
 unfolding hasNeighborRoom
 halves-near c f =

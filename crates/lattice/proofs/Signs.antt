@@ -1,7 +1,7 @@
 -- Laws of signed numbers of 32 bits: the remainder by 2, sums that fit, halves, and differences in 64 bits. Assumes nothing.
 use mathlib.Core.Path.{_≡_, refl, sym, subst, ap}
 use mathlib.Core.Bool.{Bool, true, false, not, cond, _&&_}
-use Prim.Native.Nat.{ℕ, zero, suc, _+_, _-_, _/_, _%_, _^_, _≤_, _<_}
+use Prim.Native.Nat.{ℕ, zero, suc, _+_, _/_, _%_, _^_, _≤_, _<_}
 use native.Mathlib.Nat.{div-le-self, mod-lt}
 use native.Mathlib.Omega.{arith}
 use lib.Dec.{T, eqb, ltb, leb}
@@ -38,7 +38,7 @@ pub odd-rem : (z : ℤ) → not (eqb (ofZ w32 (remZ z (pos 2))) 0) ≡ isOdd z
 odd-rem (pos a) = odd-up (a % 2) (mod-lt a (omega arith))
 odd-rem (negsuc a) = odd-down (suc a % 2) (mod-lt (suc a) (omega arith))
 
--- ---- sums
+-- ---- tests that passed
 
 pub no-truth : {X : Type 0} → false ≡ true → X
 no-truth e = absurd (subst T (sym e) tt)
@@ -49,6 +49,8 @@ both false b e = no-truth e
 
 pub and-left : (b : Bool) → (b && true) ≡ true → b ≡ true
 and-left b e = both b true e .0
+
+-- ---- sums
 
 mag-cond : (b : Bool) {m n k : ℕ} → m ≤ k → n ≤ k → mag (cond b (negsuc m) (pos n)) ≤ k
 mag-cond true h g = h

@@ -1,13 +1,14 @@
 -- Laws of tests and of signed numbers that the lattice's laws rest on: the parity of a sum and the half of a double. Assumes nothing.
-use mathlib.Core.Path.{_≡_, refl, sym, ap, ap₂, subst, _∙_}
+use mathlib.Core.Path.{_≡_, refl, sym, ap, ap₂, _∙_}
 use mathlib.Core.Bool.{Bool, true, false, not, cond, _&&_, Bool·beq, false≢true}
 use Prim.Native.Nat.{ℕ, zero, suc, _+_, _-_, _/_, _%_, _≤_, _<_}
 use native.Mathlib.Nat.{mod-lt}
 use native.Mathlib.Omega.{arith}
 use lib.Dec.{eqb, leb, ltb}
 use lib.IntN.{ℤ, pos, negsuc, negℤ, natAbs, subℕ, _+ℤ_, _-ℤ_, +ℤ-comm, negℤ-+ℤ, negℤ-negℤ}
-use lib.Signed.{mag, quotZ, shrZ}
+use lib.Signed.{mag, quotZ}
 use borrow.Author.Tests.{ltb-true, ltb-false, leb-true, lt-ltb, le-ltb}
+use Rattle.lattice.specs.Middle.{halfway}
 use Rattle.lattice.specs.Lattice.{isOdd, within, half, apart}
 
 pub both : (a b : Bool) → (a && b) ≡ true → (a ≡ true) × (b ≡ true)
@@ -160,10 +161,6 @@ abs-half (negsuc n) = natAbs-neg (pos (suc n / 2))
 -- two numbers of one parity are an even way apart
 pub apart-even : (p q : ℤ) → isOdd p ≡ isOdd q → eqb (apart p q % 2) 1 ≡ false
 apart-even p q e = odd-sum p (negℤ q) ∙ ap₂ either e (ap (λ (n : ℕ). eqb (n % 2) 1) (natAbs-neg q)) ∙ either-self (isOdd q)
-
--- half the way from p to q, rounded towards p
-abbrev pub halfway : ℤ → ℤ → ℤ
-halfway p q = p +ℤ quotZ (q -ℤ p) (pos 2)
 
 pub odd-halfway : (p q : ℤ) → isOdd (halfway p q) ≡ either (isOdd p) (eqb (apart p q / 2 % 2) 1)
 odd-halfway p q =

@@ -44,6 +44,7 @@ pub struct Children {
     pub coords: [Coord; 8],
 }
 
+// The other parity.
 pub fn opposite(p: Parity) -> Parity
     ensures { λ r. ⌜ r ≡ oppositeOf p ⌝ }
 {
@@ -53,6 +54,7 @@ pub fn opposite(p: Parity) -> Parity
     }
 }
 
+// Of negatives too: -3 % 2 is -1.
 fn is_odd(x: i32) -> bool
     ensures { λ r. ⌜ r ≡ isOdd x ⌝ }
 {
@@ -72,6 +74,7 @@ pub fn is_valid_lattice_point(c: Coord) -> bool
     false
 }
 
+// The parity of a lattice point; any other place is refused, and named.
 pub fn parity_of(c: Coord) -> ParityAnswer
     ensures { λ r. ⌜ r ≡ parityOf c ⌝ }
 {
@@ -96,6 +99,7 @@ fn is_within(low: i32, high: i32, x: i32) -> bool
     false
 }
 
+// One test for each coordinate.
 fn all_three(a: bool, b: bool, d: bool) -> bool
     ensures { λ r. ⌜ r ≡ (a && (b && d)) ⌝ }
 {
@@ -129,6 +133,7 @@ pub fn has_child_room(c: Coord) -> bool
     )
 }
 
+// The place that many steps away along each axis.
 fn moved(c: Coord, x: i32, y: i32, z: i32) -> Coord
     requires { ⌜ Fit (moved c (at x y z)) ⌝ }
     ensures { λ r. ⌜ r ≡ moved c (at x y z) ⌝ }
@@ -140,6 +145,7 @@ fn moved(c: Coord, x: i32, y: i32, z: i32) -> Coord
     }
 }
 
+// The place that is the first child, from which the others are reckoned.
 fn doubled(c: Coord) -> Coord
     requires { ⌜ Fit (doubled c) ⌝ }
     ensures { λ r. ⌜ r ≡ doubled c ⌝ }
@@ -151,7 +157,7 @@ fn doubled(c: Coord) -> Coord
     }
 }
 
-// The 14 neighbours in the table's order.
+// The 14 neighbours in the table's order, where there is room.
 pub fn around(c: Coord) -> [Coord; 14]
     requires { ⌜ hasNeighborRoom c ≡ true ⌝ }
     ensures { λ r. ⌜ r ≡ around c ⌝ }
@@ -174,8 +180,10 @@ pub fn around(c: Coord) -> [Coord; 14]
     ]
 }
 
+// What stands for a coordinate that is not handed over.
 const NOWHERE: Coord = Coord { x: 0, y: 0, z: 0 };
 
+// Refused.
 fn no_neighbors(r: Refusal) -> Neighbors
     ensures { λ n. ⌜ n ≡ noNeighbors r ⌝ }
 {
@@ -185,7 +193,7 @@ fn no_neighbors(r: Refusal) -> Neighbors
     }
 }
 
-// Parity first, then room.
+// The 14 neighbours. Parity is tested first, then room.
 pub fn get_neighbors(c: Coord) -> Neighbors
     ensures { λ r. ⌜ r ≡ neighborsOf c ⌝ }
 {
@@ -206,7 +214,7 @@ pub fn get_neighbors(c: Coord) -> Neighbors
     }
 }
 
-// The 8 children in the table's order.
+// The 8 children in the table's order, where there is room.
 pub fn below(c: Coord) -> [Coord; 8]
     requires { ⌜ hasChildRoom c ≡ true ⌝ }
     ensures { λ r. ⌜ r ≡ below c ⌝ }
@@ -224,6 +232,7 @@ pub fn below(c: Coord) -> [Coord; 8]
     ]
 }
 
+// Refused.
 fn no_children(r: Refusal) -> Children
     ensures { λ n. ⌜ n ≡ noChildren r ⌝ }
 {
@@ -233,7 +242,7 @@ fn no_children(r: Refusal) -> Children
     }
 }
 
-// Parity first, then room.
+// The 8 children. Parity is tested first, then room.
 pub fn get_children(c: Coord) -> Children
     ensures { λ r. ⌜ r ≡ childrenOf c ⌝ }
 {
@@ -261,6 +270,7 @@ fn half(x: i32) -> i32
     x >> 1
 }
 
+// Each coordinate's half, which leaves room for one more or one less.
 fn halves(c: Coord) -> Coord
     ensures { λ r. ⌜ (r ≡ halves c) × (hasNeighborRoom r ≡ true) ⌝ }
 {
@@ -288,6 +298,7 @@ fn lowered_alone(x: i32, y: i32, z: i32) -> i32
     x
 }
 
+// From an even point's halves: one that stands alone in its parity came by a step along its axis, and is one too many.
 fn even_parent(q: Coord) -> Coord
     requires { ⌜ hasNeighborRoom q ≡ true ⌝ }
     ensures { λ r. ⌜ r ≡ evenParent q ⌝ }
@@ -312,6 +323,7 @@ fn raised_to(x: i32, y: i32) -> i32
     y + 1
 }
 
+// From an odd point's halves: x is the parent's, and y and z follow its parity.
 fn odd_parent(q: Coord) -> Coord
     requires { ⌜ hasNeighborRoom q ≡ true ⌝ }
     ensures { λ r. ⌜ r ≡ oddParent q ⌝ }
@@ -338,12 +350,14 @@ pub fn get_parent(c: Coord) -> CoordAnswer
     }
 }
 
+// In 64 bits, where it fits.
 fn difference(a: i32, b: i32) -> i64
     ensures { λ r. ⌜ r ≡ a -ℤ b ⌝ }
 {
     (a as i64) - (b as i64)
 }
 
+// The distance from zero.
 fn absolute(d: i64) -> u32
     requires { ⌜ natAbs d < 2 ^ 32 ⌝ }
     ensures { λ r. ⌜ r ≡ natAbs d ⌝ }
@@ -361,13 +375,14 @@ fn apart(a: i32, b: i32) -> u32
     absolute(difference(a, b))
 }
 
+// The sum of the three distances, in 64 bits.
 fn manhattan(a: Coord, b: Coord) -> u64
     ensures { λ r. ⌜ r ≡ manhattan a b ⌝ }
 {
     (apart(a.x, b.x) as u64) + (apart(a.y, b.y) as u64) + (apart(a.z, b.z) as u64)
 }
 
-// Parity of the first, then of the second, then whether the sum fits.
+// The Manhattan distance: parity of the first, then of the second, then whether the sum fits.
 pub fn manhattan_distance_to(a: Coord, b: Coord) -> NumberAnswer
     ensures { λ r. ⌜ r ≡ manhattanOf a b ⌝ }
 {

@@ -1,2 +1,4 @@
 pub mod Fields
 pub mod Answers
+pub mod Points
+pub mod OneAnswer

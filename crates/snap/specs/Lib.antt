@@ -1,2 +1,3 @@
 pub mod Snap
 pub mod Ranges
+pub mod Laws

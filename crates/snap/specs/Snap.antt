@@ -4,9 +4,8 @@
 use mathlib.Core.Bool.{Bool, true, false, cond, _&&_}
 use Prim.Native.Nat.{ℕ}
 use lib.IntN.{ℤ, pos, _+ℤ_}
-use lib.Ieee.{Float, fin, binary64, ofInt, neg, add, sub, mul, div, le, toBits}
+use lib.Ieee.{Float, fin, binary64, ofInt, add, sub, mul, div, le, toBits}
 use Rattle.refusal.specs.declared.Coord.{Coord}
-use Rattle.refusal.specs.declared.Refusal.{Refusal}
 use Rattle.refusal.specs.declared.Refusal.the-variants.{OutOfRange}
 use Rattle.float.specs.Round.{wholeAway}
 use Rattle.lattice.specs.declared.ParityAnswer.{ParityAnswer}

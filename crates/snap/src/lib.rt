@@ -65,7 +65,7 @@ fn all_in_range(p: Point) -> bool
     false
 }
 
-// The even number nearest to a coordinate, halfway between two the one further from zero.
+// The even candidate: twice the whole number nearest to half of a coordinate.
 fn even_near(v: f64) -> i32
     requires { ⌜ inRange v ≡ true ⌝ }
     ensures { λ r. ⌜ r ≡ evenNear v ⌝ }
@@ -74,7 +74,7 @@ fn even_near(v: f64) -> i32
     n + n
 }
 
-// The odd number nearest to a coordinate, halfway between two the one further from 1.
+// The odd candidate: one more than twice the whole number nearest to half of one less.
 fn odd_near(v: f64) -> i32
     requires { ⌜ inRange v ≡ true ⌝ }
     ensures { λ r. ⌜ r ≡ oddNear v ⌝ }

@@ -18,14 +18,14 @@ abbrev μ-loop : tie.MeasureT-loop
 loop-holds : tie.Need-loop-holds Inv-loop μ-loop
 loop-holds c = search needs
 
-mul-packed : tie.Need-mul-packed Inv-loop μ-loop
-mul-packed c = search needs
+mul-plain : tie.Need-mul-plain Inv-loop μ-loop
+mul-plain c = search needs
 
-array-copy-out-packed : tie.Need-array-copy-out-packed Inv-loop μ-loop
-array-copy-out-packed c = search needs
+array-copy-out-plain : tie.Need-array-copy-out-plain Inv-loop μ-loop
+array-copy-out-plain c = search needs
 
-packed-requires : tie.Need-packed-requires Inv-loop μ-loop
-packed-requires c κs = search needs
+plain-requires : tie.Need-plain-requires Inv-loop μ-loop
+plain-requires c κs = search needs
 
 mul-cells : tie.Need-mul-cells Inv-loop μ-loop
 mul-cells c = search needs
@@ -40,7 +40,7 @@ loop-less : tie.Need-loop-less Inv-loop μ-loop
 loop-less c = search needs
 
 loop-again : tie.Need-loop-again Inv-loop μ-loop
-loop-again c = filled-more (c .before .before .before .loop .inv) (at (pos 0) (pos 0) (pos 0)) (c .packed .result) (omega arith) (c .packed .ensures)
+loop-again c = filled-more (c .before .before .before .loop .inv) (at (pos 0) (pos 0) (pos 0)) (c .plain .result) (omega arith) (c .plain .ensures)
 
 returns : tie.Need-returns Inv-loop μ-loop
 returns c = filled-all (c .before .loop .inv) (omega arith)
@@ -52,9 +52,9 @@ plain8-spec =
     Inv-loop
     μ-loop
     loop-holds
-    mul-packed
-    array-copy-out-packed
-    packed-requires
+    mul-plain
+    array-copy-out-plain
+    plain-requires
     mul-cells
     array-set-from-cells
     add-i

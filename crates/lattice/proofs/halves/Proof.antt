@@ -1,7 +1,6 @@
 -- Each field is its half; a half leaves room for a step.
 use borrow.Author.Needs.{needs}
 use mathlib.Core.Path.{_≡_, _∙_, ap}
-use Rattle.refusal.specs.declared.Coord.{Coord}
 use Rattle.lattice.specs.Lattice.{at, halves, hasNeighborRoom}
 use Rattle.lattice.proofs.Fields.{fit, read, put}
 use Rattle.lattice.proofs.Room.{halves-near}

@@ -2,9 +2,7 @@
 use borrow.Author.Needs.{needs}
 use mathlib.Core.Path.{_∙_, ap}
 use mathlib.Core.Bool.{_&&_}
-use lib.IntN.{pos, negsuc}
-use Rattle.refusal.specs.declared.Coord.{Coord}
-use Rattle.lattice.specs.Lattice.{within, hasChildRoom}
+use Rattle.lattice.specs.Lattice.{hasChildRoom}
 use Rattle.lattice.proofs.Fields.{read}
 use Rattle.lattice.proofs.has_child_room.Statement.{statement}
 use Rattle.lattice.proofs.has_child_room.Tie as tie
@@ -26,11 +24,10 @@ unfolding hasChildRoom
 returns c =
     let tests = c .before in
     let place = tests .before .before .before .before .before .before .args .c in
-    let same = read place (tests .before .struct-told3 .given) in
-    let in-x = tests .before .before .before .before .is-within .ensures ∙ ap (λ (p : Coord). within (negsuc 1073741823) (pos 1073741822) (p .x)) same in
-    let in-y = tests .before .before .is-within2 .ensures ∙ ap (λ (p : Coord). within (negsuc 1073741822) (pos 1073741822) (p .y)) same in
-    let in-z = tests .is-within3 .ensures ∙ ap (λ (p : Coord). within (negsuc 1073741822) (pos 1073741822) (p .z)) same in
-    c .all-three .ensures ∙ (λ i. in-x i && (in-y i && in-z i))
+    let in-x = tests .before .before .before .before .is-within .ensures in
+    let in-y = tests .before .before .is-within2 .ensures in
+    let in-z = tests .is-within3 .ensures in
+    c .all-three .ensures ∙ (λ i. in-x i && (in-y i && in-z i)) ∙ ap hasChildRoom (read place (tests .before .struct-told3 .given))
 
 pub has-child-room-spec : {M : Type 1} → statement M
 has-child-room-spec =

@@ -1,9 +1,8 @@
 -- The two tests of the code are the two of the definition.
 use mathlib.Core.Path.{_≡_, sym, _∙_}
-use mathlib.Core.Bool.{Bool, _&&_}
+use mathlib.Core.Bool.{_&&_}
 use lib.Signed.{leZ}
 use mir.Facts.{toZ-ofZ}
-use Rattle.lattice.specs.Lattice.{within}
 use Rattle.lattice.proofs.is_within.Statement.{statement}
 use Rattle.lattice.proofs.is_within.Tie as tie
 

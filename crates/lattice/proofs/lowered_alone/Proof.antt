@@ -2,7 +2,6 @@
 use borrow.Author.Needs.{needs}
 use mathlib.Core.Path.{_≡_, refl, sym, _∙_, ap}
 use mathlib.Core.Bool.{Bool, not, _&&_, Bool·beq}
-use lib.IntN.{ℤ}
 use mir.Facts.{toZ-ofZ}
 use Rattle.lattice.specs.Lattice.{isOdd, alone, lowered}
 use Rattle.lattice.proofs.lowered_alone.Statement.{statement}

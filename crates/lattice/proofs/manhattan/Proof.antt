@@ -1,7 +1,7 @@
 -- The three distances are the definition's; each is below 2^32, so that their sum fits.
 use borrow.Author.Needs.{needs}
 use Prim.Native.Nat.{_+_}
-use mathlib.Core.Path.{_≡_, _∙_}
+use mathlib.Core.Path.{_∙_}
 use Rattle.lattice.specs.Lattice.{manhattan}
 use Rattle.lattice.proofs.Fields.{read}
 use Rattle.lattice.proofs.manhattan.Statement.{statement}

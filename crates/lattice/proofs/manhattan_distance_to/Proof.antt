@@ -5,7 +5,7 @@ use native.Mathlib.Omega.{arith}
 use mathlib.Core.Path.{_≡_, refl, sym, _∙_, ap}
 use mathlib.Core.Bool.{Bool, cond}
 use lib.Dec.{leb}
-use lib.IntN.{ℤ, pos}
+use lib.IntN.{pos}
 use mir.Syntax.{w32}
 use mir.Val.{toZ}
 use mir.Facts.{toZ-ofZ}
@@ -81,10 +81,12 @@ summed c e =
 returns-3 : tie.Need-returns-3
 returns-3 c =
     let n = c .before .before .before .before .before .manhattan .result in
-    ap Is (fitting n (c .if1 .taken)) ∙ summed (c .before) (le-leb n 2147483647 (c .if1 .taken))
+    ap Is (fitting n (omega arith)) ∙ summed (c .before) (le-leb n 2147483647 (omega arith))
 
 returns-4 : tie.Need-returns-4
-returns-4 c = summed (c .before) (lt-leb (c .before .before .before .before .before .manhattan .result) 2147483647 (c .if1 .left))
+returns-4 c =
+    let n = c .before .before .before .before .before .manhattan .result in
+    summed (c .before) (lt-leb n 2147483647 (omega arith))
 
 pub manhattan-distance-to-spec : {M : Type 1} → statement M
 manhattan-distance-to-spec = tie.close (tie.spec parity-of-requires parity-of-requires-2 manhattan-requires enum-known-first enum-told enum-known-second enum-told-2 cast-t12 returns returns-2 returns-3 returns-4)

@@ -1,6 +1,6 @@
 -- The test of the code is the definition's.
 use borrow.Author.Needs.{needs}
-use mathlib.Core.Path.{_≡_, refl, sym, _∙_, ap}
+use mathlib.Core.Path.{_≡_, sym, _∙_, ap}
 use mathlib.Core.Bool.{Bool, not, Bool·beq}
 use mir.Facts.{toZ-ofZ}
 use Rattle.lattice.specs.Lattice.{isOdd, raised}

@@ -1,5 +1,5 @@
 -- Half of one less than a coordinate in range is within 2 ^ 30, and twice its nearest whole number fits, and one more.
-use mathlib.Core.Path.{_≡_, ap, _∙_, subst⁻¹}
+use mathlib.Core.Path.{_≡_, ap, subst⁻¹}
 use lib.Dec.{lit≤}
 use lib.IntN.{ℤ, pos, _+ℤ_}
 use lib.Ieee.{Float, binary64, ofBits, sub, div}

@@ -1,6 +1,6 @@
 -- A NaN is in no range; other patterns are numbers.
 use borrow.Author.Needs.{needs}
-use mathlib.Core.Path.{_≡_, sym, ap, _∙_}
+use mathlib.Core.Path.{sym, _∙_}
 use lib.Ieee.{binary64, ofBits}
 use Rattle.snap.specs.Snap.{point, snapOf}
 use Rattle.snap.proofs.Answers.{nan-value, nan-x, nan-y, nan-z}

@@ -1,6 +1,6 @@
 -- The three squares, added in the definition's order.
 use borrow.Author.Needs.{needs}
-use mathlib.Core.Path.{_≡_, ap, _∙_}
+use mathlib.Core.Path.{ap, _∙_}
 use lib.Ieee.{binary64, add}
 use Rattle.refusal.specs.declared.Coord.{Coord}
 use Rattle.snap.specs.Snap.{squaresOff}

@@ -1,0 +1,22 @@
+-- Each answer by the length.
+use borrow.Author.Needs.{needs}
+use borrow.Author.Tests.{eq-eqb, ne-eqb}
+use mathlib.Core.Path.{_∙_, sym, ap}
+use Rattle.cell.specs.declared.CellAnswer.the-variants.{Is}
+use Rattle.cell.specs.Bytes.{cellAt, fromBytesOf}
+use Rattle.cell.proofs.from_bytes.Statement.{statement}
+use Rattle.cell.proofs.from_bytes.Tie as tie
+
+read-at-requires : tie.Need-read-at-requires
+read-at-requires c κs = search needs
+
+returns : tie.Need-returns
+unfolding fromBytesOf
+returns c = rw (eq-eqb _ 16 (c .before .if1 .taken)) (ap Is (c .read-at .ensures))
+
+returns-2 : tie.Need-returns-2
+unfolding fromBytesOf
+returns-2 c = rw (ne-eqb _ 16 (c .if1 .left))
+
+pub from-bytes-spec : {M : Type 1} → statement M
+from-bytes-spec = tie.close (tie.spec read-at-requires returns returns-2)

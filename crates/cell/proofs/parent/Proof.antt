@@ -1,0 +1,79 @@
+-- Each answer by the tests that led to it: the resolution, then what the place's parent is.
+use borrow.Author.Needs.{needs}
+use borrow.Author.Tests.{ne-eqb}
+use mathlib.Core.Path.{_≡_, sym, _∙_, ap}
+use Prim.Native.Nat.{ℕ, _-_}
+use Rattle.refusal.specs.declared.Coord.{Coord}
+use Rattle.refusal.specs.declared.Cell.{Cell}
+use Rattle.lattice.specs.declared.CoordAnswer.{CoordAnswer}
+use Rattle.lattice.specs.Lattice as lattice
+use Rattle.cell.specs.declared.CellAnswer.the-variants.{Is}
+use Rattle.cell.specs.Cell.{resolutionOf, coordOf, plainAt, parentAt, parentOf}
+use Rattle.cell.proofs.parent.Statement.{statement}
+use Rattle.cell.proofs.parent.Tie as tie
+
+by-place : (c : Cell) {level : ℕ} → level ≡ resolutionOf c → (level ≡ 0 → ⊥) → {d : Coord} → d ≡ coordOf c → {a b : CoordAnswer} → a ≡ lattice.parentOf d → a ≡ b → parentAt b c ≡ parentOf c
+unfolding parentOf
+by-place c l fine place up known =
+    rw (ne-eqb (resolutionOf c) 0 (λ e. fine (l ∙ e)))
+    (ap (λ (p : CoordAnswer). parentAt p c) (sym known ∙ up ∙ ap lattice.parentOf place))
+
+resolution-requires : tie.Need-resolution-requires
+resolution-requires c κs = search needs
+
+returns : tie.Need-returns
+unfolding parentOf
+returns c = rw (sym (c .before .resolution .ensures) ∙ c .if1 .taken)
+
+coord-requires : tie.Need-coord-requires
+coord-requires c κs = search needs
+
+get-parent-requires : tie.Need-get-parent-requires
+get-parent-requires c κs = search needs
+
+enum-known-place : tie.Need-enum-known-place
+enum-known-place c = search needs
+
+enum-known-place-2 : tie.Need-enum-known-place-2
+enum-known-place-2 c = search needs
+
+frame-requires : tie.Need-frame-requires
+frame-requires c κs = search needs
+
+sub-plain : tie.Need-sub-plain
+sub-plain c = search needs
+
+plain-requires : tie.Need-plain-requires
+plain-requires c κs = search needs
+
+returns-2 : tie.Need-returns-2
+returns-2 c =
+    let told = c .before in
+    let up = told .before .before in
+    let level = up .before .before in
+    by-place (level .before .before .args .c) (level .before .resolution .ensures) (level .if1 .left) (up .before .coord .ensures) (up .get-parent .ensures) (told .place .given .1)
+
+returns-3 : tie.Need-returns-3
+returns-3 c =
+    let told = c .before .before .before in
+    let up = told .before .before in
+    let level = up .before .before in
+    let cell = c .plain .ensures ∙ (λ i. plainAt (c .before .frame .ensures i) (level .before .resolution .ensures i - 1) (told .place2 .given .0 .0)) in
+    ap Is cell
+    ∙ by-place (level .before .before .args .c) (level .before .resolution .ensures) (level .if1 .left) (up .before .coord .ensures) (up .get-parent .ensures) (told .place2 .given .1)
+
+pub parent-spec : {M : Type 1} → statement M
+parent-spec =
+    tie.close
+    (tie.spec
+    resolution-requires
+    returns
+    coord-requires
+    get-parent-requires
+    enum-known-place
+    enum-known-place-2
+    frame-requires
+    sub-plain
+    plain-requires
+    returns-2
+    returns-3)

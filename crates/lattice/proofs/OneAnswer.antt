@@ -1,0 +1,68 @@
+-- Two answers that meet a public function's contract agree. `Post` is what Rattle made of the source's `ensures`, so these theorems speak of the contract itself.
+-- Assumes nothing.
+use mathlib.Core.Path.{_≡_, sym, _∙_}
+use mathlib.Core.List.{List}
+use Prim.Native.Nat.{ℕ}
+use contract.Lifetimes.{Lfts}
+use denote.Triple.Clauses.{AtExit}
+use borrow.Fn.Kinds.{PK, RK, Out, Dens, resT, endedOf}
+use Rattle.lattice.proofs.opposite.Kinds as opposite-kinds
+use Rattle.lattice.proofs.opposite.Reads as opposite
+use Rattle.lattice.proofs.is_valid_lattice_point.Kinds as is-valid-lattice-point-kinds
+use Rattle.lattice.proofs.is_valid_lattice_point.Reads as is-valid-lattice-point
+use Rattle.lattice.proofs.parity_of.Kinds as parity-of-kinds
+use Rattle.lattice.proofs.parity_of.Reads as parity-of
+use Rattle.lattice.proofs.has_neighbor_room.Kinds as has-neighbor-room-kinds
+use Rattle.lattice.proofs.has_neighbor_room.Reads as has-neighbor-room
+use Rattle.lattice.proofs.around.Kinds as around-kinds
+use Rattle.lattice.proofs.around.Reads as around
+use Rattle.lattice.proofs.get_neighbors.Kinds as get-neighbors-kinds
+use Rattle.lattice.proofs.get_neighbors.Reads as get-neighbors
+use Rattle.lattice.proofs.has_child_room.Kinds as has-child-room-kinds
+use Rattle.lattice.proofs.has_child_room.Reads as has-child-room
+use Rattle.lattice.proofs.below.Kinds as below-kinds
+use Rattle.lattice.proofs.below.Reads as below
+use Rattle.lattice.proofs.get_children.Kinds as get-children-kinds
+use Rattle.lattice.proofs.get_children.Reads as get-children
+use Rattle.lattice.proofs.get_parent.Kinds as get-parent-kinds
+use Rattle.lattice.proofs.get_parent.Reads as get-parent
+use Rattle.lattice.proofs.manhattan_distance_to.Kinds as manhattan-distance-to-kinds
+use Rattle.lattice.proofs.manhattan_distance_to.Reads as manhattan-distance-to
+
+-- the arguments decide the answer
+abbrev pub OneAnswer : (n : ℕ) (ps : List (PK n)) (r : RK n) → Out n ps r → Type 0
+OneAnswer n ps r Post =
+    (κs : Lfts n) (a : Dens κs ps) (z z′ : resT r κs .Denot) (e e′ : AtExit (endedOf n ps r) κs) → Post κs a z e → Post κs a z′ e′ → z ≡ z′
+
+pub opposite-one : OneAnswer 0 opposite-kinds.ps opposite-kinds.r opposite.Post
+opposite-one κs a z z′ e e′ p q = p ∙ sym q
+
+pub is-valid-lattice-point-one : OneAnswer 0 is-valid-lattice-point-kinds.ps is-valid-lattice-point-kinds.r is-valid-lattice-point.Post
+is-valid-lattice-point-one κs a z z′ e e′ p q = p ∙ sym q
+
+pub parity-of-one : OneAnswer 0 parity-of-kinds.ps parity-of-kinds.r parity-of.Post
+parity-of-one κs a z z′ e e′ p q = p ∙ sym q
+
+pub has-neighbor-room-one : OneAnswer 0 has-neighbor-room-kinds.ps has-neighbor-room-kinds.r has-neighbor-room.Post
+has-neighbor-room-one κs a z z′ e e′ p q = p ∙ sym q
+
+pub around-one : OneAnswer 0 around-kinds.ps around-kinds.r around.Post
+around-one κs a z z′ e e′ p q = p ∙ sym q
+
+pub get-neighbors-one : OneAnswer 0 get-neighbors-kinds.ps get-neighbors-kinds.r get-neighbors.Post
+get-neighbors-one κs a z z′ e e′ p q = p ∙ sym q
+
+pub has-child-room-one : OneAnswer 0 has-child-room-kinds.ps has-child-room-kinds.r has-child-room.Post
+has-child-room-one κs a z z′ e e′ p q = p ∙ sym q
+
+pub below-one : OneAnswer 0 below-kinds.ps below-kinds.r below.Post
+below-one κs a z z′ e e′ p q = p ∙ sym q
+
+pub get-children-one : OneAnswer 0 get-children-kinds.ps get-children-kinds.r get-children.Post
+get-children-one κs a z z′ e e′ p q = p ∙ sym q
+
+pub get-parent-one : OneAnswer 0 get-parent-kinds.ps get-parent-kinds.r get-parent.Post
+get-parent-one κs a z z′ e e′ p q = p ∙ sym q
+
+pub manhattan-distance-to-one : OneAnswer 0 manhattan-distance-to-kinds.ps manhattan-distance-to-kinds.r manhattan-distance-to.Post
+manhattan-distance-to-one κs a z z′ e e′ p q = p ∙ sym q

@@ -1,0 +1,52 @@
+-- The known points of the scope document, and the ends of its ranges, by computation. Assumes nothing.
+use mathlib.Core.Path.{_≡_, refl}
+use mathlib.Core.List.{[], _∷_, map}
+use lib.IntN.{pos, negsuc}
+use Rattle.refusal.specs.declared.Coord.{Coord}
+use Rattle.refusal.specs.declared.Refusal.the-variants.{InvalidParity, CoordOverflow}
+use Rattle.refusal.specs.declared.Outcome.{Outcome}
+use Rattle.refusal.specs.declared.Outcome.the-variants.{Answered, Refused}
+use Rattle.lattice.specs.declared.ParityAnswer.the-variants as parity
+use Rattle.lattice.specs.declared.CoordAnswer.the-variants.{At}
+use Rattle.lattice.specs.declared.NumberAnswer.the-variants as number
+use Rattle.lattice.specs.Lattice.{at, isLatticePoint, parityOf, hasNeighborRoom, around, neighborSteps, neighborsOf, hasChildRoom, below, childSteps, childrenOf, parentOf, manhattan, manhattanOf}
+use Rattle.lattice.proofs.Room.{origin}
+
+-- (0, 1, 0) is mixed
+pub mixed : parityOf (at (pos 0) (pos 1) (pos 0)) ≡ parity.Refused (InvalidParity (at (pos 0) (pos 1) (pos 0)))
+unfolding parityOf isLatticePoint
+mixed = refl
+
+-- (4, 2, 2) to (1, 1, 1); (-2, 0, 0) to (-2, 0, 0); (-3, 1, -1) to (-2, 0, 0)
+pub parents : map parentOf (at (pos 4) (pos 2) (pos 2) ∷ at (negsuc 1) (pos 0) (pos 0) ∷ at (negsuc 2) (pos 1) (negsuc 0) ∷ []) ≡ At (at (pos 1) (pos 1) (pos 1)) ∷ At (at (negsuc 1) (pos 0) (pos 0)) ∷ At (at (negsuc 1) (pos 0) (pos 0)) ∷ []
+unfolding parentOf parityOf isLatticePoint
+parents = refl
+
+abbrev around-of : Coord → Outcome
+around-of c = neighborsOf c .outcome
+
+-- neighbours: -2147483646 and 2147483645 are the last that are answered
+pub neighbor-ends : map around-of (at (negsuc 2147483645) (pos 0) (pos 0) ∷ at (pos 1) (pos 2147483645) (pos 1) ∷ []) ≡ Answered ∷ Answered ∷ []
+unfolding neighborsOf parityOf isLatticePoint hasNeighborRoom around neighborSteps
+neighbor-ends = refl
+
+pub neighbor-past : map around-of (at (negsuc 2147483646) (pos 1) (pos 1) ∷ at (pos 2147483646) (pos 0) (pos 0) ∷ at (pos 0) (pos 0) (pos 2147483646) ∷ []) ≡ Refused CoordOverflow ∷ Refused CoordOverflow ∷ Refused CoordOverflow ∷ []
+unfolding neighborsOf parityOf isLatticePoint hasNeighborRoom around neighborSteps
+neighbor-past = refl
+
+abbrev below-of : Coord → Outcome
+below-of c = childrenOf c .outcome
+
+-- children: x from -1073741824, y and z from -1073741823, all to 1073741822
+pub child-ends : map below-of (at (negsuc 1073741823) (pos 0) (pos 0) ∷ at (pos 1073741822) (pos 0) (pos 0) ∷ at (pos 1) (negsuc 1073741822) (negsuc 1073741822) ∷ at (pos 0) (pos 1073741822) (pos 1073741822) ∷ []) ≡ Answered ∷ Answered ∷ Answered ∷ Answered ∷ []
+unfolding childrenOf parityOf isLatticePoint hasChildRoom below childSteps
+child-ends = refl
+
+pub child-past : map below-of (at (negsuc 1073741824) (pos 1) (pos 1) ∷ at (pos 1073741823) (pos 1) (pos 1) ∷ at (pos 0) (negsuc 1073741823) (pos 0) ∷ at (pos 0) (pos 0) (negsuc 1073741823) ∷ at (pos 1) (pos 1073741823) (pos 1) ∷ at (pos 1) (pos 1) (pos 1073741823) ∷ []) ≡ Refused CoordOverflow ∷ Refused CoordOverflow ∷ Refused CoordOverflow ∷ Refused CoordOverflow ∷ Refused CoordOverflow ∷ Refused CoordOverflow ∷ []
+unfolding childrenOf parityOf isLatticePoint hasChildRoom below childSteps
+child-past = refl
+
+-- Manhattan distances from (0, 0, 0): 2147483647 is the last that is answered
+pub far : map (manhattanOf origin) (at (pos 2147483645) (pos 1) (pos 1) ∷ at (pos 2147483646) (negsuc 1) (pos 0) ∷ at (negsuc 2147483647) (pos 0) (pos 0) ∷ []) ≡ number.Is (pos 2147483647) ∷ number.Refused CoordOverflow ∷ number.Refused CoordOverflow ∷ []
+unfolding manhattanOf parityOf isLatticePoint manhattan
+far = refl
