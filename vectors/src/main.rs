@@ -1,7 +1,7 @@
-//! Writes a fixed list of the oracle's answers, so that they can be replayed with no Rust at hand.
+//! Writes a fixed list of the oracle's answers, which the crate `replay` replays with no Rust at hand.
 //! No library is involved, and the file is the same each time.
 //!
-//!     vectors [FILE]        vectors/answers.bin unless named
+//!     vectors [FILE]        crates/replay/data/answers.bin unless named
 //!
 //! The file is records of 64 bytes, at most 1,000, all numbers big-endian:
 //!
@@ -580,7 +580,7 @@ fn cells(list: &mut List) {
 fn main() {
     let file = std::env::args()
         .nth(1)
-        .unwrap_or_else(|| "vectors/answers.bin".to_string());
+        .unwrap_or_else(|| "crates/replay/data/answers.bin".to_string());
     quiet();
     let mut list = List { bytes: Vec::new() };
     roots(&mut list);

@@ -1,0 +1,505 @@
+// The Rust oracle's answers, replayed: a list of records, each with a call of the C face, its arguments and what the oracle said to them.
+// The call is made anew and must say the same. vectors/src/main.rs has the format of a record and the numbers of the calls.
+ghost use mathlib.Core.Path.{_≡_};
+ghost use Prim.Native.Nat.{_+_, _≤_, _<_};
+ghost use lib.ListN.{length};
+ghost use mir.Syntax.{w32};
+ghost use mir.Val.{toZ};
+ghost use Rattle.answers.specs.Counted.{Counted};
+use tishkolan::cells;
+use tishkolan::points;
+use tishkolan::told;
+use tishkolan::told::BitsTold;
+use tishkolan::told::CoordTold;
+use tishkolan::told::FieldsTold;
+use tishkolan::told::NumberTold;
+use tishkolan::told::PointTold;
+use tishkolan::told::RefusalTold;
+
+// What a lent buffer holds before a call, and still holds where the call has nothing to write.
+const UNTOUCHED: u8 = 0xA5;
+
+const UNTOUCHED_NUMBER: i32 = -1515870811;
+
+// How many records a list has, how many calls said something else than their record, and the first of these, counted from 0.
+pub struct Tally {
+    pub answers: usize,
+    pub differ: usize,
+    pub first: usize,
+}
+
+// ---- what stands in a record
+
+// A byte as a number that is compared, and as one that counts.
+fn wide(byte: u8) -> u32 {
+    byte as u32
+}
+
+fn small(byte: u8) -> usize
+    ensures { λ r. ⌜ r < 256 ⌝ }
+{
+    byte as usize
+}
+
+// The number of these two's complement bits.
+fn signed(bits: u32) -> i32
+    ensures { λ r. ⌜ r ≡ toZ w32 bits ⌝ }
+{
+    if bits < 2147483648 {
+        bits as i32
+    } else {
+        (bits - 2147483648) as i32 + (-2147483648)
+    }
+}
+
+fn number(record: &[u8; 64], at: usize) -> i32
+    requires { ⌜ at + 4 ≤ 64 ⌝ }
+{
+    signed(words::read32_big(record, at))
+}
+
+// The bits of a double.
+fn bits(record: &[u8; 64], at: usize) -> u64
+    requires { ⌜ at + 8 ≤ 64 ⌝ }
+{
+    words::read64_big(record, at)
+}
+
+// The `count` bytes that are handed over as a cell. Where they would pass the record's end they stop there, still too many for a cell.
+fn slice(record: &[u8; 64], at: usize, count: usize) -> &[u8]
+    requires { ⌜ (at ≤ 64) × (count < 256) ⌝ }
+{
+    let whole = &record[..];
+    if count <= 64 - at {
+        return &whole[at..at + count];
+    }
+    &whole[at..]
+}
+
+fn first_cell(record: &[u8; 64]) -> &[u8] {
+    slice(record, 8, small(record[2]))
+}
+
+fn second_cell(record: &[u8; 64]) -> &[u8] {
+    slice(record, 24, small(record[3]))
+}
+
+// The length of the buffer that is lent, in bytes or numbers.
+fn room(record: &[u8; 64]) -> usize
+    ensures { λ r. ⌜ r < 256 ⌝ }
+{
+    small(record[4])
+}
+
+fn refuses(record: &[u8; 64]) -> bool {
+    record[5] != 0
+}
+
+// A number of the answer, which is 0 where the call refuses.
+fn answer_number(record: &[u8; 64], at: usize) -> i32
+    requires { ⌜ at + 4 ≤ 64 ⌝ }
+{
+    if refuses(record) {
+        return 0;
+    }
+    number(record, at)
+}
+
+fn answer_bits(record: &[u8; 64], at: usize) -> u64
+    requires { ⌜ at + 8 ≤ 64 ⌝ }
+{
+    if refuses(record) {
+        return 0;
+    }
+    bits(record, at)
+}
+
+fn answer_byte(record: &[u8; 64], at: usize) -> u8
+    requires { ⌜ at < 64 ⌝ }
+{
+    if refuses(record) {
+        return 0;
+    }
+    record[at]
+}
+
+// A coordinate that a refusal carries, which is 0 where the call answers.
+fn refused_number(record: &[u8; 64], at: usize) -> i32
+    requires { ⌜ at + 4 ≤ 64 ⌝ }
+{
+    if refuses(record) {
+        return number(record, at);
+    }
+    0
+}
+
+// ---- whether what is told is what the record expects
+
+fn same_place(record: &[u8; 64], x: i32, y: i32, z: i32) -> bool {
+    x == answer_number(record, 40)
+        && y == answer_number(record, 44)
+        && z == answer_number(record, 48)
+}
+
+fn same_refusal(record: &[u8; 64], told: RefusalTold) -> bool {
+    if told.number != wide(record[5]) || told.room != wide(record[6]) {
+        return false;
+    }
+    told.x == refused_number(record, 40)
+        && told.y == refused_number(record, 44)
+        && told.z == refused_number(record, 48)
+}
+
+fn same_number(record: &[u8; 64], told: NumberTold) -> bool {
+    same_refusal(record, told.refusal) && told.value == answer_number(record, 40)
+}
+
+fn same_bits(record: &[u8; 64], told: BitsTold) -> bool {
+    same_refusal(record, told.refusal) && told.bits == answer_bits(record, 40)
+}
+
+fn same_coord(record: &[u8; 64], told: CoordTold) -> bool {
+    same_refusal(record, told.refusal) && same_place(record, told.x, told.y, told.z)
+}
+
+fn same_point(record: &[u8; 64], told: PointTold) -> bool {
+    same_refusal(record, told.refusal)
+        && told.x == answer_bits(record, 40)
+        && told.y == answer_bits(record, 48)
+        && told.z == answer_bits(record, 56)
+}
+
+fn same_head(record: &[u8; 64], told: FieldsTold) -> bool {
+    told.frame == answer_byte(record, 40)
+        && told.resolution == answer_byte(record, 41)
+        && told.exponent == answer_byte(record, 42)
+        && told.flags == answer_byte(record, 43)
+        && told.reserved == answer_byte(record, 44)
+}
+
+fn same_fields(record: &[u8; 64], told: FieldsTold) -> bool {
+    same_refusal(record, told.refusal)
+        && same_head(record, told)
+        && told.x == answer_number(record, 45)
+        && told.y == answer_number(record, 49)
+        && told.z == answer_number(record, 53)
+}
+
+// Whether the cell of 16 bytes at `at` is the record's.
+fn same_cell(record: &[u8; 64], out: &[u8; 256], at: usize) -> bool
+    requires { ⌜ at + 16 ≤ 256 ⌝ }
+{
+    let mut i = 0;
+    while i < 16 {
+        if out[at + i] != record[40 + i] {
+            return false;
+        }
+        i += 1;
+    }
+    true
+}
+
+// Whether nothing was written from `from` on.
+fn kept_bytes(out: &[u8; 256], from: usize) -> bool {
+    let mut i = from;
+    while i < 256 {
+        if out[i] != UNTOUCHED {
+            return false;
+        }
+        i += 1;
+    }
+    true
+}
+
+fn kept_numbers(out: &[i32; 256], from: usize) -> bool {
+    let mut i = from;
+    while i < 256 {
+        if out[i] != UNTOUCHED_NUMBER {
+            return false;
+        }
+        i += 1;
+    }
+    true
+}
+
+// The record's one of `count` cells is where it belongs, and nothing is written behind the last; where the call refuses, nothing at all.
+fn same_cells(record: &[u8; 64], told: RefusalTold, out: &[u8; 256], count: usize) -> bool
+    requires { ⌜ count ≤ 16 ⌝ }
+{
+    if !same_refusal(record, told) {
+        return false;
+    }
+    let element = small(record[1]);
+    if count <= element {
+        return false;
+    }
+    if refuses(record) {
+        return kept_bytes(out, 0);
+    }
+    same_cell(record, out, 16 * element) && kept_bytes(out, 16 * count)
+}
+
+// The same of `count` places, of three numbers each.
+fn same_places(record: &[u8; 64], told: RefusalTold, out: &[i32; 256], count: usize) -> bool
+    requires { ⌜ count ≤ 16 ⌝ }
+{
+    if !same_refusal(record, told) {
+        return false;
+    }
+    let element = small(record[1]);
+    if count <= element {
+        return false;
+    }
+    if refuses(record) {
+        return kept_numbers(out, 0);
+    }
+    let at = 3 * element;
+    same_place(record, out[at], out[at + 1], out[at + 2]) && kept_numbers(out, 3 * count)
+}
+
+// ---- the calls
+
+fn parity(record: &[u8; 64]) -> NumberTold {
+    points::tishkolan_parity(number(record, 8), number(record, 12), number(record, 16))
+}
+
+fn lattice_parent(record: &[u8; 64]) -> CoordTold {
+    points::tishkolan_lattice_parent(number(record, 8), number(record, 12), number(record, 16))
+}
+
+fn physical_to_lattice(record: &[u8; 64]) -> CoordTold {
+    points::tishkolan_physical_to_lattice(
+        bits(record, 8),
+        bits(record, 16),
+        bits(record, 24),
+        record[32],
+    )
+}
+
+fn to_physical(record: &[u8; 64]) -> PointTold {
+    points::tishkolan_to_physical(number(record, 8), number(record, 12), number(record, 16))
+}
+
+fn lattice_distance(record: &[u8; 64]) -> BitsTold {
+    points::tishkolan_lattice_distance(
+        number(record, 8),
+        number(record, 12),
+        number(record, 16),
+        number(record, 20),
+        number(record, 24),
+        number(record, 28),
+    )
+}
+
+fn lattice_manhattan_distance(record: &[u8; 64]) -> NumberTold {
+    points::tishkolan_lattice_manhattan_distance(
+        number(record, 8),
+        number(record, 12),
+        number(record, 16),
+        number(record, 20),
+        number(record, 24),
+        number(record, 28),
+    )
+}
+
+// Told as a number: it refuses nothing.
+fn is_valid_lattice_point(record: &[u8; 64]) -> NumberTold {
+    let valid = points::tishkolan_is_valid_lattice_point(
+        number(record, 8),
+        number(record, 12),
+        number(record, 16),
+    );
+    told::number(valid as i32)
+}
+
+fn lattice_neighbors(record: &[u8; 64]) -> bool {
+    let mut out = [UNTOUCHED_NUMBER; 256];
+    let count = room(record);
+    let told = points::tishkolan_lattice_neighbors(
+        number(record, 8),
+        number(record, 12),
+        number(record, 16),
+        &mut out[0..count],
+    );
+    same_places(record, told, &out, 14)
+}
+
+fn lattice_children(record: &[u8; 64]) -> bool {
+    let mut out = [UNTOUCHED_NUMBER; 256];
+    let count = room(record);
+    let told = points::tishkolan_lattice_children(
+        number(record, 8),
+        number(record, 12),
+        number(record, 16),
+        &mut out[0..count],
+    );
+    same_places(record, told, &out, 8)
+}
+
+fn cell_new(record: &[u8; 64]) -> bool {
+    let mut out = [UNTOUCHED; 256];
+    let count = room(record);
+    let told = cells::tishkolan_cell_new(
+        record[8],
+        record[9],
+        number(record, 10),
+        number(record, 14),
+        number(record, 18),
+        record[22],
+        record[23],
+        &mut out[0..count],
+    );
+    same_cells(record, told, &out, 1)
+}
+
+fn cell_from_coords(record: &[u8; 64]) -> bool {
+    let mut out = [UNTOUCHED; 256];
+    let count = room(record);
+    let told = cells::tishkolan_cell_from_coords(
+        record[8],
+        record[9],
+        number(record, 10),
+        number(record, 14),
+        number(record, 18),
+        &mut out[0..count],
+    );
+    same_cells(record, told, &out, 1)
+}
+
+fn cell_neighbors(record: &[u8; 64]) -> bool {
+    let mut out = [UNTOUCHED; 256];
+    let count = room(record);
+    let told = cells::tishkolan_cell_neighbors(first_cell(record), &mut out[0..count]);
+    same_cells(record, told, &out, 14)
+}
+
+fn cell_children(record: &[u8; 64]) -> bool {
+    let mut out = [UNTOUCHED; 256];
+    let count = room(record);
+    let told = cells::tishkolan_cell_children(first_cell(record), &mut out[0..count]);
+    same_cells(record, told, &out, 8)
+}
+
+fn cell_parent(record: &[u8; 64]) -> bool {
+    let mut out = [UNTOUCHED; 256];
+    let count = room(record);
+    let told = cells::tishkolan_cell_parent(first_cell(record), &mut out[0..count]);
+    same_cells(record, told, &out, 1)
+}
+
+fn cell_ancestor(record: &[u8; 64]) -> bool {
+    let mut out = [UNTOUCHED; 256];
+    let count = room(record);
+    let told = cells::tishkolan_cell_ancestor(first_cell(record), record[24], &mut out[0..count]);
+    same_cells(record, told, &out, 1)
+}
+
+// The calls on points whose answer is told by value. What has no call's number agrees with nothing.
+fn point_call(record: &[u8; 64], call: u8) -> bool {
+    match call {
+        1 => same_bits(record, points::tishkolan_square_root(bits(record, 8))),
+        2 => same_number(record, parity(record)),
+        3 => same_number(
+            record,
+            points::tishkolan_opposite(words::read32_big(record, 8)),
+        ),
+        4 => same_number(record, is_valid_lattice_point(record)),
+        7 => same_coord(record, lattice_parent(record)),
+        8 => same_coord(record, physical_to_lattice(record)),
+        9 => same_point(record, to_physical(record)),
+        10 => same_bits(record, lattice_distance(record)),
+        11 => same_number(record, lattice_manhattan_distance(record)),
+        _ => false,
+    }
+}
+
+// The calls on cells whose answer is told by value.
+fn cell_call(record: &[u8; 64], call: u8) -> bool {
+    match call {
+        14 => same_fields(record, cells::tishkolan_cell_fields(first_cell(record))),
+        15 => same_coord(
+            record,
+            cells::tishkolan_cell_lattice_coord(first_cell(record)),
+        ),
+        16 => same_number(
+            record,
+            cells::tishkolan_cell_compare(first_cell(record), second_cell(record)),
+        ),
+        17 => same_number(record, cells::tishkolan_cell_is_plain(first_cell(record))),
+        22 => same_refusal(
+            record,
+            cells::tishkolan_cell_between(first_cell(record), second_cell(record)),
+        ),
+        23 => same_bits(
+            record,
+            cells::tishkolan_cell_distance(first_cell(record), second_cell(record)),
+        ),
+        24 => same_number(
+            record,
+            cells::tishkolan_cell_manhattan_distance(first_cell(record), second_cell(record)),
+        ),
+        _ => point_call(record, call),
+    }
+}
+
+// Whether the record's call says what the record expects: first the calls that write to a buffer.
+fn agrees(record: &[u8; 64]) -> bool {
+    let call = record[0];
+    match call {
+        5 => lattice_neighbors(record),
+        6 => lattice_children(record),
+        12 => cell_new(record),
+        13 => cell_from_coords(record),
+        18 => cell_neighbors(record),
+        19 => cell_children(record),
+        20 => cell_parent(record),
+        21 => cell_ancestor(record),
+        _ => cell_call(record, call),
+    }
+}
+
+// ---- the list
+
+// The record that begins at `at`.
+fn record_at(list: &[u8], at: usize) -> [u8; 64]
+    requires { ⌜ at + 64 ≤ length (now list) ⌝ }
+{
+    let mut record = [0; 64];
+    let mut i = 0;
+    while i < 64 {
+        record[i] = list[at + i];
+        i += 1;
+    }
+    record
+}
+
+fn agrees_at(list: &[u8], at: usize) -> bool
+    requires { ⌜ at + 64 ≤ length (now list) ⌝ }
+{
+    let record = record_at(list, at);
+    agrees(&record)
+}
+
+// Replays each record of the list. A rest that is no whole record is left out.
+pub fn replay(list: &[u8]) -> Tally
+    ensures { λ t. ⌜ Counted (length (now (list .entry))) t ⌝ }
+{
+    let answers = list.len() / 64;
+    let mut differ = 0;
+    let mut first = 0;
+    let mut i = 0;
+    while i < answers {
+        if !agrees_at(list, 64 * i) {
+            if differ == 0 {
+                first = i;
+            }
+            differ += 1;
+        }
+        i += 1;
+    }
+    Tally {
+        answers,
+        differ,
+        first,
+    }
+}
