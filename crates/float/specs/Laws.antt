@@ -1,13 +1,49 @@
--- A law of rounding: the rounded float equals the nearest whole number as a float. They differ at most in the sign of a zero. Assumes nothing.
-use mathlib.Core.Path.{_≡_, refl}
+-- Laws of NaNs and of rounding that other crates rest on too: a NaN's pattern has the value `nan`, a rounding is none, and the rounded float equals the nearest whole
+-- number as a float, from which it differs at most in the sign of a zero. Assumes nothing.
+use mathlib.Core.Path.{_≡_, refl, sym, _∙_}
 use mathlib.Core.Bool.{Bool, true, false, cond}
-use Prim.Native.Nat.{ℕ, zero, suc, _*_, _^_}
+use Prim.Native.Nat.{ℕ, zero, suc, _+_, _*_, _^_}
 use lib.IntN.{ℤ, pos, negℤ}
 use lib.Dec.{ltb}
 use borrow.Author.Tests.{eq-eqb}
-use lib.Ieee.{Float, inf, fin, binary64, up, down, odd, units, round, eq, ofInt}
+use lib.Ieee.{Float, nan, inf, fin, Format, binary64, prec, emax, low, up, down, odd, units, round, eq, ofInt, ofBits, nanBits, isNan}
+use lib.Ieee.Bits.{nanBits-is}
 use lib.Ieee.Fits.{round-is}
 use Rattle.float.specs.Round.{wholeOf, roundAway, wholeAway}
+
+-- ---- NaNs
+
+pub is-nan : (x : Float) → isNan x ≡ true → x ≡ nan
+unfolding isNan
+is-nan nan e = refl
+is-nan (inf s) e = cc
+is-nan (fin s m k) e = cc
+
+-- a NaN's pattern has the value `nan`
+pub nan-value : (a : ℕ) → nanBits binary64 a ≡ true → ofBits binary64 a ≡ nan
+nan-value a e = is-nan (ofBits binary64 a) (sym (nanBits-is binary64 a) ∙ e)
+
+-- ---- a rounding is a number or infinite
+
+module _ (P : Float → Type 0) (finite : (s : Bool) (m : ℕ) (e : ℤ) → P (fin s m e)) (infinite : (s : Bool) → P (inf s)) where
+  either : (b : Bool) (x y : Float) → P x → P y → P (cond b x y)
+  either true x y h k = h
+  either false x y h k = k
+
+  at-odd : (d : ℕ) (s : Bool) (q k l : ℕ) → P (odd d s q k l)
+  unfolding odd
+  at-odd d s zero k l = finite s 0 (pos 0)
+  at-odd d s (suc q) k l = finite s _ _
+
+  at-units : (f : Format) (s : Bool) (q k : ℕ) → P (units f s q k)
+  unfolding units
+  at-units f s q k = either (ltb (q * 2 ^ k) (2 ^ (low f + suc (emax f)))) (odd (suc (prec f)) s q k (low f)) (inf s) (at-odd (suc (prec f)) s q k (low f)) (infinite s)
+
+  -- so what holds of every number and of both infinities holds of it
+  pub rounded : (f : Format) (s : Bool) (a b : ℕ) → P (round f s a b)
+  rounded f s a b = rw (round-is f s a b) (at-units f s _ _)
+
+-- ---- a rounding equals itself
 
 -- what is a number equals itself
 abbrev Same : Float → Type 0
@@ -23,21 +59,8 @@ unfolding eq
 infinite-same true = refl
 infinite-same false = refl
 
-odd-same : (d : ℕ) (s : Bool) (q k l : ℕ) → Same (odd d s q k l)
-unfolding odd
-odd-same d s zero k l = finite-same s 0 (pos 0)
-odd-same d s (suc q) k l = finite-same s _ _
-
-either : (b : Bool) (x y : Float) → Same x → Same y → Same (cond b x y)
-either true x y h k = h
-either false x y h k = k
-
-units-same : (s : Bool) (q k : ℕ) → Same (units binary64 s q k)
-unfolding units
-units-same s q k = either (ltb (q * 2 ^ k) (2 ^ 2098)) (odd 54 s q k 1074) (inf s) (odd-same 54 s q k 1074) (infinite-same s)
-
 round-same : (s : Bool) (n : ℕ) → Same (round binary64 s n 1)
-round-same s n = rw (round-is binary64 s n 1) (units-same s _ _)
+round-same s n = rounded Same finite-same infinite-same binary64 s n 1
 
 positive : (n : ℕ) → eq (round binary64 false n 1) (ofInt binary64 (pos n)) ≡ true
 unfolding ofInt

@@ -4,8 +4,7 @@ use mathlib.Core.Bool.{Bool, true, false, _&&_}
 use Prim.Native.Nat.{ℕ}
 use native.Mathlib.Omega.{arith}
 use lib.IntN.{pos}
-use lib.Ieee.{Float, nan, inf, fin, binary64, mul, le, isNan, nanBits, ofBits}
-use lib.Ieee.Bits.{nanBits-is}
+use lib.Ieee.{Float, nan, fin, binary64, mul, le}
 use denote.Enum.Declared.{tagOf}
 use Rattle.refusal.specs.declared.Refusal.the-variants.{OutOfRange}
 use Rattle.lattice.proofs.ParityAnswer.{the-type}
@@ -21,15 +20,6 @@ answered (Is q) e = (q, refl)
 answered (Refused r) e = absurd (omega (arith, e))
 
 -- ---- a NaN
-is-nan : (x : Float) → isNan x ≡ true → x ≡ nan
-unfolding isNan
-is-nan nan e = refl
-is-nan (inf s) e = cc
-is-nan (fin s m k) e = cc
-
-pub nan-value : (a : ℕ) → nanBits binary64 a ≡ true → ofBits binary64 a ≡ nan
-nan-value a e = is-nan (ofBits binary64 a) (sym (nanBits-is binary64 a) ∙ e)
-
 -- three tests of which one fails, the second or the third
 second-fails : (a d : Bool) → (a && (false && d)) ≡ false
 second-fails true d = refl
