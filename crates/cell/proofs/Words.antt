@@ -1,5 +1,5 @@
 -- Two words as one number, high * base + low with low below the base: they are compared as the numbers are. Assumes nothing.
-use mathlib.Core.Path.{_≡_, refl, sym, ap, subst}
+use mathlib.Core.Path.{_≡_, refl, sym}
 use mathlib.Core.Bool.{Bool, true, false}
 use Prim.Native.Nat.{ℕ, _+_, _*_, _<_}
 use native.Mathlib.Nat.{suc-mul, mul-le-mul-right}

@@ -24,10 +24,9 @@ use Rattle.lattice.specs.declared.ParityAnswer.the-variants as parity
 use Rattle.lattice.specs.declared.CoordAnswer.{CoordAnswer}
 use Rattle.lattice.specs.declared.CoordAnswer.the-variants as coord
 use Rattle.lattice.specs.Lattice as lattice
-use Rattle.lattice.specs.Lattice.{at, isLatticePoint, parityOf, around, below, hasNeighborRoom, hasChildRoom, manhattan}
+use Rattle.lattice.specs.Lattice.{at, Fitting, isLatticePoint, parityOf, around, below, hasNeighborRoom, hasChildRoom, manhattan}
 use Rattle.lattice.specs.Laws as lattice-laws
 use Rattle.lattice.specs.Laws.{parity-point, neighbor-symmetric, room-fits, child-room-fits}
-use Rattle.lattice.specs.Fitting.{Fitting}
 use Rattle.lattice.specs.Middle.{middle}
 use Rattle.lattice.specs.Signs.{both}
 use Rattle.cell.specs.declared.CellAnswer.the-variants.{Is, Refused}

@@ -12,7 +12,6 @@ use mir.Val.{SFits}
 use Rattle.refusal.specs.declared.Coord.{Coord}
 use Rattle.refusal.specs.declared.Refusal.{Refusal}
 use Rattle.refusal.specs.declared.Refusal.the-variants.{InvalidParity, CoordOverflow}
-use Rattle.refusal.specs.declared.Outcome.{Outcome}
 use Rattle.refusal.specs.declared.Outcome.the-variants as outcome
 use Rattle.lattice.specs.declared.Parity.{Parity}
 use Rattle.lattice.specs.declared.Parity.the-variants.{Even, Odd}
@@ -29,7 +28,7 @@ abbrev pub at : ℤ → ℤ → ℤ → Coord
 at x y z = record { x = x; y = y; z = z }
 
 -- each coordinate fits 32 bits
-pub record Fit (c : Coord) : Type 0 where
+pub record Fitting (c : Coord) : Type 0 where
   pub in-x : SFits w32 (c .x)
   pub in-y : SFits w32 (c .y)
   pub in-z : SFits w32 (c .z)

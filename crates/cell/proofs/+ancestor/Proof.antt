@@ -1,8 +1,8 @@
 -- By the resolution over the target, which falls by one from a cell to its parent.
 use borrow.Author.Needs.{needs}
 use native.Mathlib.Omega.{arith}
-use mathlib.Core.Path.{_≡_, sym, _∙_}
-use Prim.Native.Nat.{ℕ, _-_, _<_}
+use mathlib.Core.Path.{sym, _∙_}
+use Prim.Native.Nat.{ℕ, _-_}
 use Rattle.cell.specs.Cell.{resolutionOf}
 use Rattle.cell.proofs.Climb.{finer, reached, stopped, step, nearer}
 use borrow.Fn.Kinds.{In}

@@ -1,9 +1,9 @@
 -- Each answer by the length.
 use borrow.Author.Needs.{needs}
 use borrow.Author.Tests.{eq-eqb, ne-eqb}
-use mathlib.Core.Path.{_∙_, sym, ap}
+use mathlib.Core.Path.{ap}
 use Rattle.cell.specs.declared.CellAnswer.the-variants.{Is}
-use Rattle.cell.specs.Bytes.{cellAt, fromBytesOf}
+use Rattle.cell.specs.Bytes.{fromBytesOf}
 use Rattle.cell.proofs.from_bytes.Statement.{statement}
 use Rattle.cell.proofs.from_bytes.Tie as tie
 
