@@ -1,4 +1,3 @@
-mod Answers
 mod Climb
 mod Complement
 mod Filled

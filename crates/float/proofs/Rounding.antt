@@ -1,7 +1,7 @@
 -- Rounding of a number above zero, N / D as a fraction: its double is exact, and half of one more than the double's whole part is the nearest whole number. Assumes nothing.
 use mathlib.Core.Path.{_≡_, refl, sym, ap, _∙_, subst}
 use Prim.Native.Nat.{ℕ, zero, suc, _+_, _-_, _*_, _/_, _%_, _^_, _≤_, _<_, min}
-use native.Mathlib.Nat.{le-trans, le-of-eq, mul-one, mul-assoc, mul-comm, mul-left-comm, mul-pos, zero-mul, div-div-eq-div-mul, add-div-right, div-lt-iff-lt-mul, lt-of-lt-of-le, le-of-lt, lt-of-not-le, not-le-of-lt, sub-add-cancel, suc-mul, zero-lt-suc}
+use native.Mathlib.Nat.{le-trans, le-of-eq, mul-one, mul-assoc, mul-comm, mul-pos, zero-mul, div-div-eq-div-mul, add-div-right, div-lt-iff-lt-mul, lt-of-lt-of-le, le-of-lt, lt-of-not-le, not-le-of-lt, sub-add-cancel, zero-lt-suc}
 use native.Mathlib.Omega.{arith}
 use mathlib.Core.Bool.{Bool, true, false, _&&_, true≢false, false≢true}
 use lib.IntN.{ℤ, pos, negsuc}
@@ -14,6 +14,7 @@ use lib.Ieee.Exact.{HasValue, round-exact}
 use lib.Ieee.Nearest.{div-same}
 use lib.Ieee.Back.{round-whole, whole-unique}
 use Rattle.float.specs.Round.{wholeOf, wholeSize, roundAway}
+use Rattle.float.specs.Laws.{size-within}
 
 pub so : {b : Bool} → b ≡ true → T b
 so e = subst T (sym e) tt
@@ -114,22 +115,6 @@ halves N D h =
     ∙ ap (λ (x : ℕ). (x + D) / (D * 2)) (mul-comm N 2)
     ∙ ap (λ (x : ℕ). (2 * N + D) / x) (mul-comm D 2)
 
--- a number up to c rounds to at most c
-pub within : (N D c : ℕ) → 0 < D → N ≤ c * D → (2 * N + D) / (2 * D) ≤ c
-within N D c h l = less ((2 * N + D) / (2 * D)) c (div-lt-iff-lt-mul (double h) .1 (subst (λ (x : ℕ). 2 * N + D < x) (sym (scale c D)) (room N D (c * D) h l)))
-  where
-    double : 0 < D → 0 < 2 * D
-    double h = omega arith
-
-    scale : (c D : ℕ) → suc c * (2 * D) ≡ 2 * (c * D) + 2 * D
-    scale c D = let a = suc-mul c (2 * D) in let b = mul-left-comm c 2 D in omega arith
-
-    room : (N D P : ℕ) → 0 < D → N ≤ P → 2 * N + D < 2 * P + 2 * D
-    room N D P h l = omega arith
-
-    less : (a c : ℕ) → a < suc c → a ≤ c
-    less a c h = omega arith
-
 -- ---- a number above zero and below 2 ^ 52, doubled and cut
 pub record Doubled (x : Float) (z : Float) : Type 0 where
   pub above : T (lt (fin true 1 (pos 0)) z)
@@ -173,10 +158,7 @@ doubled (fin false (suc m) e) t a b =
     more : (a : ℕ) → a < 9007199254740992 → a < 18446744073709551616
     more a h = omega arith
 
--- the nearest whole number to a number up to c is up to c, and as a float it is the rounded number
-pub size-within : (m : ℕ) (e : ℤ) (c : ℕ) → m * up e ≤ c * down e → wholeOf m e ≤ c
-size-within m e c h = subst (λ (x : ℕ). (x + down e) / (2 * down e) ≤ c) (sym (mul-assoc 2 m (up e))) (within (m * up e) (down e) c (down-pos e) h)
-
+-- as a float the nearest whole number is the rounded number
 pub record Whole (x : Float) : Type 0 where
   pub within : wholeSize x ≤ 4503599627370496
   pub float : ofInt binary64 (pos (wholeSize x)) ≡ roundAway x

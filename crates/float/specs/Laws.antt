@@ -1,14 +1,15 @@
--- Laws of NaNs and of rounding that other crates rest on too: a NaN's pattern has the value `nan`, a rounding is none, and the rounded float equals the nearest whole
--- number as a float, from which it differs at most in the sign of a zero. Assumes nothing.
+-- Laws of NaNs, of comparing and of rounding that other crates rest on too. Assumes nothing.
 use mathlib.Core.Path.{_≡_, refl, sym, _∙_}
-use mathlib.Core.Bool.{Bool, true, false, cond}
-use Prim.Native.Nat.{ℕ, zero, suc, _+_, _*_, _^_}
+use mathlib.Core.Bool.{Bool, true, false, cond, _&&_, _||_, false≢true}
+use Prim.Native.Nat.{ℕ, zero, suc, _+_, _*_, _^_, _≤_, _<_}
+use native.Mathlib.Nat.{le-of-lt, mul-assoc, mul-left-comm, mul-pos, suc-mul, div-lt-iff-lt-mul}
+use native.Mathlib.Omega.{arith}
 use lib.IntN.{ℤ, pos, negℤ}
-use lib.Dec.{ltb}
-use borrow.Author.Tests.{eq-eqb}
+use lib.Dec.{ltb, lit<}
+use borrow.Author.Tests.{eq-eqb, ltb-true}
 use lib.Ieee.{Float, nan, inf, fin, Format, binary64, prec, emax, low, up, down, odd, units, round, eq, ofInt, ofBits, nanBits, isNan}
 use lib.Ieee.Bits.{nanBits-is}
-use lib.Ieee.Fits.{round-is}
+use lib.Ieee.Fits.{round-is, down-pos}
 use Rattle.float.specs.Round.{wholeOf, roundAway, wholeAway}
 
 -- ---- NaNs
@@ -22,6 +23,31 @@ is-nan (fin s m k) e = cc
 -- a NaN's pattern has the value `nan`
 pub nan-value : (a : ℕ) → nanBits binary64 a ≡ true → ofBits binary64 a ≡ nan
 nan-value a e = is-nan (ofBits binary64 a) (sym (nanBits-is binary64 a) ∙ e)
+
+-- ---- comparing
+
+-- below, or level
+pub at-most : (a b : ℕ) (q t : Bool) → (q ≡ true → a ≤ b) → (ltb a b || (q && t)) ≡ true → a ≤ b
+at-most a b q t g h = go (ltb a b) q (ltb-true a b) g h
+  where
+    go : (p q : Bool) → (p ≡ true → a < b) → (q ≡ true → a ≤ b) → (p || (q && t)) ≡ true → a ≤ b
+    go true q f g h = le-of-lt (f refl)
+    go false true f g h = g refl
+    go false false f g h = absurd (false≢true h)
+
+-- the nearest whole number to a number up to c is up to c
+pub size-within : (m : ℕ) (e : ℤ) (c : ℕ) → m * up e ≤ c * down e → wholeOf m e ≤ c
+size-within m e c h = less (wholeOf m e) c (div-lt-iff-lt-mul (mul-pos (lit< tt) (down-pos e)) .1 (under (down-pos e) h))
+  where
+    under : 0 < down e → m * up e ≤ c * down e → 2 * m * up e + down e < suc c * (2 * down e)
+    under p h =
+        let a = mul-assoc 2 m (up e) in
+        let b = suc-mul c (2 * down e) in
+        let d = mul-left-comm c 2 (down e) in
+        omega arith
+
+    less : (a c : ℕ) → a < suc c → a ≤ c
+    less a c h = omega arith
 
 -- ---- a rounding is a number or infinite
 
@@ -43,7 +69,7 @@ module _ (P : Float → Type 0) (finite : (s : Bool) (m : ℕ) (e : ℤ) → P (
   pub rounded : (f : Format) (s : Bool) (a b : ℕ) → P (round f s a b)
   rounded f s a b = rw (round-is f s a b) (at-units f s _ _)
 
--- ---- a rounding equals itself
+-- ---- the rounded float equals the nearest whole number as a float: they differ at most in the sign of a zero
 
 -- what is a number equals itself
 abbrev Same : Float → Type 0

@@ -2,7 +2,7 @@
 use borrow.Author.Needs.{needs}
 use native.Mathlib.Omega.{arith}
 use mathlib.Core.Path.{sym, _∙_}
-use Prim.Native.Nat.{ℕ, _-_}
+use Prim.Native.Nat.{ℕ, _-_, _<_}
 use Rattle.cell.specs.Cell.{resolutionOf}
 use Rattle.cell.proofs.Climb.{finer, reached, stopped, step, nearer}
 use borrow.Fn.Kinds.{In}
