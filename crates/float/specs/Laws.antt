@@ -1,16 +1,22 @@
 -- Laws of NaNs, of comparing and of rounding that other crates rest on too. Assumes nothing.
-use mathlib.Core.Path.{_≡_, refl, sym, _∙_}
+use mathlib.Core.Path.{_≡_, refl, sym, ap, _∙_, subst}
+use mathlib.Core.Logic.{inl, inr}
 use mathlib.Core.Bool.{Bool, true, false, cond, _&&_, _||_, false≢true}
-use Prim.Native.Nat.{ℕ, zero, suc, _+_, _*_, _^_, _≤_, _<_}
-use native.Mathlib.Nat.{le-of-lt, mul-assoc, mul-left-comm, mul-pos, suc-mul, div-lt-iff-lt-mul}
+use Prim.Native.Nat.{ℕ, zero, suc, _+_, _*_, _/_, _%_, _^_, _≤_, _<_, min}
+use native.Mathlib.Nat.{le-of-lt, eq-or-lt-of-le, mul-assoc, mul-left-comm, mul-pos, suc-mul, div-lt-iff-lt-mul}
 use native.Mathlib.Omega.{arith}
 use lib.IntN.{ℤ, pos, negℤ}
-use lib.Dec.{ltb, lit<}
-use borrow.Author.Tests.{eq-eqb, ltb-true}
-use lib.Ieee.{Float, nan, inf, fin, Format, binary64, prec, emax, low, up, down, odd, units, round, eq, ofInt, ofBits, nanBits, isNan}
+use lib.Dec.{T, leb, ltb, eqb, ltb→lt, lt→ltb, lit<}
+use borrow.Author.Tests.{eq-eqb, ltb-true, lt-ltb}
+use lib.Ieee.{Float, nan, inf, fin, Format, binary64, prec, emax, low, up, down, odd, units, round, fits, toUnsigned, eq, lt, ofInt, ofBits, nanBits, isNan}
 use lib.Ieee.Bits.{nanBits-is}
-use lib.Ieee.Fits.{round-is, down-pos}
+use lib.Ieee.Fits.{round-is, down-pos, and-l, and-r}
 use Rattle.float.specs.Round.{wholeOf, roundAway, wholeAway}
+
+-- ---- tests
+
+pub so : {b : Bool} → b ≡ true → T b
+so e = subst T (sym e) tt
 
 -- ---- NaNs
 
@@ -35,6 +41,25 @@ at-most a b q t g h = go (ltb a b) q (ltb-true a b) g h
     go false true f g h = g refl
     go false false f g h = absurd (false≢true h)
 
+-- and the other way
+pub level-or-below : (a b : ℕ) (q : Bool) → (a ≡ b → q ≡ true) → a ≤ b → (ltb a b || (q && true)) ≡ true
+level-or-below a b q g h = elim (eq-or-lt-of-le h) [ inl p ↦ go (ltb a b) q (g p) | inr l ↦ ap (λ (t : Bool). t || (q && true)) (lt-ltb a b l) ]
+  where
+    go : (p q : Bool) → q ≡ true → (p || (q && true)) ≡ true
+    go true q h = refl
+    go false true h = refl
+    go false false h = h
+
+-- ---- sizes
+
+-- a number of the format has at most 53 digits
+pub digits-of : (s : Bool) (m : ℕ) (e : ℤ) → T (fits binary64 (fin s m e)) → m < 9007199254740992
+unfolding fits
+digits-of s zero e t = lit< tt
+digits-of s (suc m) e t =
+    ltb→lt (suc m) 9007199254740992 (and-r (eqb (suc m % 2) 1) (ltb (suc m) 9007199254740992) (and-l (eqb (suc m % 2) 1 && ltb (suc m) 9007199254740992) (leb (down e) (2 ^ 1074))
+    (and-l (eqb (suc m % 2) 1 && ltb (suc m) 9007199254740992 && leb (down e) (2 ^ 1074)) (ltb (suc m * up e) (2 ^ 1024 * down e)) t)))
+
 -- the nearest whole number to a number up to c is up to c
 pub size-within : (m : ℕ) (e : ℤ) (c : ℕ) → m * up e ≤ c * down e → wholeOf m e ≤ c
 size-within m e c h = less (wholeOf m e) c (div-lt-iff-lt-mul (mul-pos (lit< tt) (down-pos e)) .1 (under (down-pos e) h))
@@ -48,6 +73,24 @@ size-within m e c h = less (wholeOf m e) c (div-lt-iff-lt-mul (mul-pos (lit< tt)
 
     less : (a c : ℕ) → a < suc c → a ≤ c
     less a c h = omega arith
+
+-- ---- a cast to an unsigned integer
+
+-- it asks for more than -1, which a number from zero on is
+pub above-minus-one : (m : ℕ) (e : ℤ) → T (lt (fin true 1 (pos 0)) (fin false m e))
+unfolding lt
+above-minus-one m e = lt→ltb 0 (1 * down e + m * up e * 1) (more (down e) (m * up e * 1) (down-pos e))
+  where
+    more : (d b : ℕ) → 0 < d → 0 < 1 * d + b
+    more d b h = omega arith
+
+-- and gives the whole part, where 64 bits hold it
+pub cut-is : (m : ℕ) (e : ℤ) → m * up e / down e < 18446744073709551616 → toUnsigned 64 (fin false m e) ≡ m * up e / down e
+unfolding toUnsigned
+cut-is m e h = uncapped (m * up e / down e) h
+  where
+    uncapped : (a : ℕ) → a < 18446744073709551616 → min a 18446744073709551615 ≡ a
+    uncapped a h = omega arith
 
 -- ---- a rounding is a number or infinite
 

@@ -3,17 +3,14 @@ use mathlib.Core.Path.{_≡_, refl, subst}
 use mathlib.Core.Bool.{Bool, true}
 use mathlib.Core.List.{List, [], _∷_}
 use Prim.Native.Nat.{ℕ, zero, suc}
-use lib.IntN.{pos, _+ℤ_, +ℤ-idr}
+use lib.IntN.{_+ℤ_, +ℤ-idr}
 use lib.ListN.{getD}
 use Rattle.refusal.specs.declared.Coord.{Coord}
-use Rattle.lattice.specs.Lattice.{at, moved, doubled, Fitting, neighborSteps, hasNeighborRoom, childSteps, hasChildRoom, halves}
+use Rattle.lattice.specs.Lattice.{at, origin, moved, doubled, Fitting, neighborSteps, hasNeighborRoom, childSteps, hasChildRoom, halves}
 use Rattle.lattice.specs.Signs.{both}
 use Rattle.lattice.specs.Tables.{passes}
 use Rattle.lattice.specs.Fitting.{short, childlike, moved-fits, doubled-fits}
 use Rattle.lattice.proofs.Signs.{half-near}
-
-abbrev pub origin : Coord
-origin = at (pos 0) (pos 0) (pos 0)
 
 -- what a test says of every entry it says of the entry at k, and past the end of no step
 each : (t : Coord → Bool) → t origin ≡ true → (l : List Coord) → passes t l ≡ true → (k : ℕ) → t (getD l k origin) ≡ true

@@ -1,9 +1,8 @@
 -- From a coordinate in range to its candidates: how far from zero a float is, and that halving, taking one away and rounding keep it there. Assumes nothing.
 use mathlib.Core.Path.{_≡_, refl, sym, ap, _∙_, subst}
-use mathlib.Core.Bool.{Bool, true, false, cond, _&&_, _||_, true≢false, false≢true}
-use mathlib.Core.Logic.{inl, inr}
+use mathlib.Core.Bool.{Bool, true, false, cond, true≢false, false≢true}
 use Prim.Native.Nat.{ℕ, zero, suc, _+_, _-_, _*_, _^_, _≤_, _<_, zero-le}
-use native.Mathlib.Nat.{le-of-eq, mul-one, add-mul, eq-or-lt-of-le, mul-left-comm, mul-right-comm, le-of-mul-le-mul-right, mul-le-mul-right, le-trans, mul-pos}
+use native.Mathlib.Nat.{le-of-eq, mul-one, add-mul, mul-left-comm, mul-right-comm, le-of-mul-le-mul-right, mul-le-mul-right, le-trans, mul-pos}
 use native.Mathlib.Omega.{arith}
 use lib.Dec.{ltb, eqb, lit<, lit≤}
 use lib.IntN.{ℤ, pos, negsuc, negℤ, _+ℤ_}
@@ -15,7 +14,7 @@ use lib.Ieee.Bits.{is-true}
 use lib.Ieee.Order.{round-mono}
 use borrow.Author.Tests.{eqb-true, lt-ltb, eq-eqb}
 use Rattle.float.specs.Round.{wholeOf, wholeAway}
-use Rattle.float.specs.Laws.{at-most, size-within}
+use Rattle.float.specs.Laws.{at-most, level-or-below, size-within}
 use Rattle.lattice.specs.Signs.{both, three}
 use Rattle.snap.specs.declared.Point.{Point}
 use Rattle.snap.specs.Snap.{inRange, allInRange, floatOne, floatTwo, evenNear, oddNear}
@@ -150,14 +149,6 @@ odd-halved v h = halved 2147483647 2147483645 1073741824 1073741823 (λ s. go s)
     go false = record { twice = lit≤ tt; small = lit≤ tt }
 
 -- ---- what `nearest_whole` asks: from -2^30 to 2^30
-level-or-below : (a b : ℕ) (q : Bool) → (a ≡ b → q ≡ true) → a ≤ b → (ltb a b || (q && true)) ≡ true
-level-or-below a b q g h = elim (eq-or-lt-of-le h) [ inl p ↦ go (ltb a b) q (g p) | inr l ↦ ap (λ (t : Bool). t || (q && true)) (lt-ltb a b l) ]
-  where
-    go : (p q : Bool) → q ≡ true → (p || (q && true)) ≡ true
-    go true q h = refl
-    go false true h = refl
-    go false false h = h
-
 pub record Near (x : Float) : Type 0 where
   pub low : le (fin true 1 (pos 30)) x ≡ true
   pub high : le x (fin false 1 (pos 30)) ≡ true

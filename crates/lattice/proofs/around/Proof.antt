@@ -2,8 +2,8 @@
 use Prim.Native.Nat.{ℕ}
 use mathlib.Core.List.{[], _∷_}
 use lib.ListN.{getD}
-use Rattle.lattice.specs.Lattice.{moved, Fitting, neighborSteps, around}
-use Rattle.lattice.proofs.Room.{origin, near}
+use Rattle.lattice.specs.Lattice.{origin, moved, Fitting, neighborSteps, around}
+use Rattle.lattice.proofs.Room.{near}
 use Rattle.lattice.proofs.around.Statement.{statement}
 use Rattle.lattice.proofs.around.Tie as tie
 

@@ -4,8 +4,8 @@ use mathlib.Core.Path.{sym, subst, _∙_, ap}
 use mathlib.Core.List.{[], _∷_, map}
 use lib.ListN.{getD}
 use Rattle.refusal.specs.declared.Coord.{Coord}
-use Rattle.lattice.specs.Lattice.{moved, Fitting, childSteps, below}
-use Rattle.lattice.proofs.Room.{origin, twice, lower}
+use Rattle.lattice.specs.Lattice.{origin, moved, Fitting, childSteps, below}
+use Rattle.lattice.proofs.Room.{twice, lower}
 use Rattle.lattice.proofs.below.Statement.{statement}
 use Rattle.lattice.proofs.below.Tie as tie
 

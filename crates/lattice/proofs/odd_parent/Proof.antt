@@ -2,9 +2,9 @@
 use mathlib.Core.Path.{sym, subst, _∙_, ap}
 use lib.ListN.{getD}
 use Rattle.refusal.specs.declared.Coord.{Coord}
-use Rattle.lattice.specs.Lattice.{at, moved, Fitting, neighborSteps, oddParent}
+use Rattle.lattice.specs.Lattice.{at, origin, moved, Fitting, neighborSteps, oddParent}
 use Rattle.lattice.specs.Fields.{Told, kept, read, put}
-use Rattle.lattice.proofs.Room.{origin, near}
+use Rattle.lattice.proofs.Room.{near}
 use Rattle.lattice.proofs.odd_parent.Statement.{statement}
 use Rattle.lattice.proofs.odd_parent.Tie as tie
 
