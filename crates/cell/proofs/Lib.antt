@@ -1,7 +1,4 @@
-mod Climb
 mod Complement
 mod Filled
 pub mod OneAnswer
 pub mod Points
-mod Stored
-mod Words

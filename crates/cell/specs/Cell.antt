@@ -23,6 +23,8 @@ use Rattle.lattice.specs.declared.CoordAnswer.the-variants as coord
 use Rattle.lattice.specs.declared.NumberAnswer.{NumberAnswer}
 use Rattle.lattice.specs.Lattice as lattice
 use Rattle.lattice.specs.Lattice.{at, parityOf, around, below, hasNeighborRoom, hasChildRoom, manhattan, manhattanOf}
+use Rattle.distance.specs.declared.DistanceAnswer.{DistanceAnswer}
+use Rattle.distance.specs.Distance.{distanceOf}
 use Rattle.cell.specs.declared.CellAnswer.{CellAnswer}
 use Rattle.cell.specs.declared.CellAnswer.the-variants.{Is, Refused}
 use Rattle.cell.specs.declared.Order.{Order}
@@ -206,3 +208,6 @@ betweenOf a b =
 
 abbrev pub manhattanCells : Cell → Cell → NumberAnswer
 manhattanCells a b = manhattanOf (coordOf a) (coordOf b)
+
+abbrev pub distanceCells : Cell → Cell → DistanceAnswer
+distanceCells a b = distanceOf (coordOf a) (coordOf b)

@@ -1,0 +1,122 @@
+-- The bytes are read; what is found is told by the tests that led there: the outcome, then the room.
+use borrow.Author.Needs.{needs}
+use mathlib.Core.Path.{_≡_, ap, _∙_}
+use mathlib.Core.List.{List}
+use Prim.Native.Nat.{ℕ, _*_}
+use native.Mathlib.Omega.{arith}
+use lib.ListN.{length}
+use Rattle.cell.specs.declared.CellAnswer.{CellAnswer}
+use Rattle.cell.specs.declared.Neighbors.{Neighbors}
+use Rattle.cell.specs.Cell.{neighborsOf}
+use Rattle.cell.specs.Bytes.{cellBytes, fromBytesOf}
+use Rattle.cell.specs.Stored.{length-cellBytes}
+use Rattle.tishkolan.specs.Told.{Filled, filled, fill}
+use Rattle.tishkolan.specs.Cells.{byCell, kept, cellsBytes, neighborsTold}
+use Rattle.tishkolan.proofs.Given.{on-cell}
+use Rattle.tishkolan.proofs.Found.{neighbors-long}
+use Rattle.tishkolan.proofs.Writing.{length-flatMap, fill-refused, fill-no-room, fill-front}
+use Rattle.tishkolan.proofs.cells.tishkolan_cell_neighbors.Statement.{statement}
+use Rattle.tishkolan.proofs.cells.tishkolan_cell_neighbors.Tie as tie
+
+abbrev put : List ℕ → Neighbors → Filled ℕ
+put out n = fill (n .outcome) (cellsBytes (n .cells)) out
+
+by-cell : (l out : List ℕ) {a b : CellAnswer} → a ≡ fromBytesOf l → a ≡ b → byCell (kept out) (λ d. put out (neighborsOf d)) b ≡ neighborsTold l out
+unfolding neighborsTold
+by-cell l out = on-cell (kept out) (λ d. put out (neighborsOf d)) l
+
+by-found : (c : tie.After-get-neighbors) → put (c .before .before .before .before .before .before .before .args .out .now) (c .get-neighbors .result) ≡ neighborsTold (c .before .before .before .before .before .before .before .args .cell .now) (c .before .before .before .before .before .before .before .args .out .now)
+by-found c =
+    let known = c .before .before in
+    let out = known .before .before .before .before .before .args .out .now in
+    ap (put out) (c .get-neighbors .ensures) ∙ by-cell _ out (known .before .before .from-bytes .ensures) (known .given2 .given .1)
+
+long : (c : tie.After-get-neighbors) → length (cellsBytes (c .get-neighbors .result .cells)) ≡ 224
+long c =
+    length-flatMap cellBytes 16 length-cellBytes (c .get-neighbors .result .cells)
+    ∙ ap (λ (n : Neighbors). 16 * length (n .cells)) (c .get-neighbors .ensures)
+    ∙ ap (λ (n : ℕ). 16 * n) (neighbors-long _)
+
+from-bytes-requires : tie.Need-from-bytes-requires
+from-bytes-requires c κs = search needs
+
+enum-known-given : tie.Need-enum-known-given
+enum-known-given c = search needs
+
+told-requires : tie.Need-told-requires
+told-requires c κs = search needs
+
+enum-known-given-2 : tie.Need-enum-known-given-2
+enum-known-given-2 c = search needs
+
+get-neighbors-requires : tie.Need-get-neighbors-requires
+get-neighbors-requires c κs = search needs
+
+enum-known-outcome : tie.Need-enum-known-outcome
+enum-known-outcome c = search needs
+
+told-requires-2 : tie.Need-told-requires-2
+told-requires-2 c κs = search needs
+
+enum-told : tie.Need-enum-told
+enum-told c = search needs
+
+told-requires-3 : tie.Need-told-requires-3
+told-requires-3 c κs = search needs
+
+returns : tie.Need-returns
+returns c =
+    let found = c .before .before .before .before .before in
+    let out = found .before .before .before .before .before .before .before .args .out .now in
+    let size : length (cellsBytes (found .get-neighbors .result .cells)) ≡ 224 = long found in
+    fill-no-room _ out (c .before .before .enum-told .given .1) (omega arith) (c .told3 .ensures) ∙ by-found found
+
+put-neighbors-requires : tie.Need-put-neighbors-requires
+put-neighbors-requires c κs = search needs
+
+answered-requires : tie.Need-answered-requires
+answered-requires c κs = search needs
+
+returns-2 : tie.Need-returns-2
+returns-2 c =
+    let known = c .before .before in
+    let out = known .before .before .before .before .before .args .out .now in
+    (λ i. filled (c .told .ensures i) out) ∙ by-cell _ out (known .before .before .from-bytes .ensures) (known .given .given .1)
+
+returns-3 : tie.Need-returns-3
+returns-3 c =
+    let found = c .before .before .before .before .before in
+    let out = found .before .before .before .before .before .before .before .args .out .now in
+    fill-refused _ out (c .before .before .outcome .given .1) (c .told2 .ensures) ∙ by-found found
+
+same-length : tie.Need-same-length
+same-length c = search needs
+
+returns-4 : tie.Need-returns-4
+returns-4 c =
+    let found = c .before .before .before .before .before .before .before .before .before in
+    let out = found .before .before .before .before .before .before .before .args .out .now in
+    let size : length (cellsBytes (found .get-neighbors .result .cells)) ≡ 224 = long found in
+    fill-front _ out (c .before .before .before .before .before .before .enum-told .given .1) (omega arith) (c .answered .ensures) (c .before .before .before .put-neighbors .ensures)
+    ∙ by-found found
+
+pub tishkolan-cell-neighbors-spec : {M : Type 1} → statement M
+tishkolan-cell-neighbors-spec =
+    tie.close
+    (tie.spec
+    from-bytes-requires
+    enum-known-given
+    told-requires
+    enum-known-given-2
+    get-neighbors-requires
+    enum-known-outcome
+    told-requires-2
+    enum-told
+    told-requires-3
+    returns
+    put-neighbors-requires
+    answered-requires
+    returns-2
+    returns-3
+    same-length
+    returns-4)

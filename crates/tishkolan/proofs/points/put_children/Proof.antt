@@ -1,0 +1,63 @@
+-- The invariant: the numbers of the first i places stand at the front.
+use borrow.Author.Needs.{needs}
+use native.Mathlib.Omega.{arith}
+use Prim.Native.Nat.{_-_}
+use mathlib.Core.Path.{refl}
+use Rattle.tishkolan.specs.Told.{zeroCoord}
+use Rattle.tishkolan.specs.Points.{triple}
+use Rattle.tishkolan.proofs.Writing.{Written, written-none, written-length, written-room, written-more, written-all}
+use Rattle.tishkolan.proofs.points.put_children.Statement.{statement}
+use Rattle.tishkolan.proofs.points.put_children.Tie as tie
+
+abbrev Inv-loop : tie.InvT-loop
+Inv-loop out₀ places i₀ out i = Written 8 3 triple places out₀ out i
+
+abbrev μ-loop : tie.MeasureT-loop
+μ-loop out₀ places i₀ out i = 8 - i
+
+loop-holds : tie.Need-loop-holds Inv-loop μ-loop
+loop-holds c = written-none (search needs) (search needs)
+
+mul-put-place : tie.Need-mul-put-place Inv-loop μ-loop
+mul-put-place c = search needs
+
+mul-put-place-2 : tie.Need-mul-put-place-2 Inv-loop μ-loop
+mul-put-place-2 c = search needs
+
+array-copy-out-put-place : tie.Need-array-copy-out-put-place Inv-loop μ-loop
+array-copy-out-put-place c = search needs
+
+put-place-requires : tie.Need-put-place-requires Inv-loop μ-loop
+put-place-requires c κs = written-room (λ p. refl) (c .before .before .before .loop .inv) (omega arith)
+
+add-i : tie.Need-add-i Inv-loop μ-loop
+add-i c = search needs
+
+loop-less : tie.Need-loop-less Inv-loop μ-loop
+loop-less c = search needs
+
+loop-again : tie.Need-loop-again Inv-loop μ-loop
+loop-again c = written-more (λ p. refl) (c .before .before .before .before .before .loop .inv) zeroCoord (omega arith) (c .before .put-place .ensures)
+
+same-length : tie.Need-same-length Inv-loop μ-loop
+same-length c = written-length (λ p. refl) (c .before .loop .inv)
+
+returns : tie.Need-returns Inv-loop μ-loop
+returns c = written-all (λ p. refl) (c .before .loop .inv) (omega arith)
+
+pub put-children-spec : {M : Type 1} → statement M
+put-children-spec =
+    tie.close
+    (tie.spec
+    Inv-loop
+    μ-loop
+    loop-holds
+    mul-put-place
+    mul-put-place-2
+    array-copy-out-put-place
+    put-place-requires
+    add-i
+    loop-less
+    loop-again
+    same-length
+    returns)

@@ -1,0 +1,25 @@
+-- The distance of the places that the numbers name, told.
+use borrow.Author.Needs.{needs}
+use mathlib.Core.Path.{ap, _∙_}
+use Rattle.distance.specs.Distance.{distanceOf}
+use Rattle.tishkolan.specs.Told.{ofDistance}
+use Rattle.tishkolan.proofs.Places.{kept-place}
+use Rattle.tishkolan.proofs.points.tishkolan_lattice_distance.Statement.{statement}
+use Rattle.tishkolan.proofs.points.tishkolan_lattice_distance.Tie as tie
+
+distance-to-requires : tie.Need-distance-to-requires
+distance-to-requires c κs = search needs
+
+of-distance-requires : tie.Need-of-distance-requires
+of-distance-requires c κs = search needs
+
+returns : tie.Need-returns
+returns c =
+    let fits = c .before .before .fits in
+    let first = kept-place (fits .ax) (fits .ay) (fits .az) in
+    let second = kept-place (fits .bx) (fits .by) (fits .bz) in
+    c .of-distance .ensures ∙ ap ofDistance (c .before .distance-to .ensures ∙ (λ i. distanceOf (first i) (second i)))
+
+pub tishkolan-lattice-distance-spec : {M : Type 1} → statement M
+tishkolan-lattice-distance-spec =
+    tie.close (tie.spec distance-to-requires of-distance-requires returns)

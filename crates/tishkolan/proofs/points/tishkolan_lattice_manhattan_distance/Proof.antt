@@ -1,0 +1,27 @@
+-- The distance of the places that the numbers name, told.
+use borrow.Author.Needs.{needs}
+use mathlib.Core.Path.{ap, _∙_}
+use Rattle.lattice.specs.Lattice.{manhattanOf}
+use Rattle.tishkolan.specs.Told.{ofNumber}
+use Rattle.tishkolan.proofs.Places.{kept-place}
+use Rattle.tishkolan.proofs.points.tishkolan_lattice_manhattan_distance.Statement.{
+  statement,
+}
+use Rattle.tishkolan.proofs.points.tishkolan_lattice_manhattan_distance.Tie as tie
+
+manhattan-distance-to-requires : tie.Need-manhattan-distance-to-requires
+manhattan-distance-to-requires c κs = search needs
+
+of-number-requires : tie.Need-of-number-requires
+of-number-requires c κs = search needs
+
+returns : tie.Need-returns
+returns c =
+    let fits = c .before .before .fits in
+    let first = kept-place (fits .ax) (fits .ay) (fits .az) in
+    let second = kept-place (fits .bx) (fits .by) (fits .bz) in
+    c .of-number .ensures ∙ ap ofNumber (c .before .manhattan-distance-to .ensures ∙ (λ i. manhattanOf (first i) (second i)))
+
+pub tishkolan-lattice-manhattan-distance-spec : {M : Type 1} → statement M
+tishkolan-lattice-manhattan-distance-spec =
+    tie.close (tie.spec manhattan-distance-to-requires of-number-requires returns)

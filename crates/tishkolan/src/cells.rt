@@ -1,0 +1,341 @@
+// Cells for C: a cell is its 16 bytes, and another length is refused before anything else.
+ghost use mathlib.Core.Path.{_≡_};
+ghost use Prim.Native.Nat.{_≤_};
+ghost use lib.ListN.{length};
+ghost use Rattle.lattice.specs.Lattice.{at};
+ghost use Rattle.tishkolan.specs.Told.{filled, fronted};
+ghost use Rattle.tishkolan.specs.Cells.{pairOf, orderNumber, fillCell, cellsBytes, newTold, neighborsTold, childrenTold, parentTold, ancestorTold, noFields, fieldsOf, fieldsTold, latticeCoordTold, isPlainTold, compareTold, ofBetween, betweenTold, distanceTold, manhattanTold};
+use crate::told;
+use crate::told::BitsTold;
+use crate::told::CoordTold;
+use crate::told::FieldsTold;
+use crate::told::NumberTold;
+use crate::told::RefusalTold;
+use cell::Between;
+use cell::CellAnswer;
+use cell::Order;
+use lattice::CoordAnswer;
+use refusal::Cell;
+use refusal::Outcome;
+use refusal::Refusal;
+use refusal::Room;
+
+// The two cells that C hands over.
+struct Pair {
+    first: Cell,
+    second: Cell,
+}
+
+enum PairAnswer {
+    Are(Pair),
+    Refused(Refusal),
+}
+
+// The first is read first.
+fn both(first: &[u8], second: &[u8]) -> PairAnswer
+    ensures { λ r. ⌜ r ≡ pairOf (now (first .entry)) (now (second .entry)) ⌝ }
+{
+    let a = cell::from_bytes(first);
+    match a {
+        CellAnswer::Refused(r) => PairAnswer::Refused(r),
+        CellAnswer::Is(c) => {
+            let b = cell::from_bytes(second);
+            match b {
+                CellAnswer::Refused(r) => PairAnswer::Refused(r),
+                CellAnswer::Is(d) => PairAnswer::Are(Pair {
+                    first: c,
+                    second: d,
+                }),
+            }
+        }
+    }
+}
+
+// A cell at the front of what C lends.
+fn put_cell(out: &mut [u8], a: CellAnswer) -> RefusalTold
+    ensures { λ t. ⌜ filled t (now (out .exit)) ≡ fillCell (now (out .entry)) a ⌝ }
+{
+    match a {
+        CellAnswer::Refused(r) => told::told(r),
+        CellAnswer::Is(c) => {
+            if out.len() < 16 {
+                return told::told(Refusal::NoRoom(Room::Output));
+            }
+            cell::write_at(out, 0, c);
+            told::answered()
+        }
+    }
+}
+
+// The cell of these fields.
+#[no_mangle]
+pub extern "C" fn tishkolan_cell_new(
+    frame: u8,
+    resolution: u8,
+    x: i32,
+    y: i32,
+    z: i32,
+    exponent: u8,
+    flags: u8,
+    out: &mut [u8],
+) -> RefusalTold
+    ensures { λ t. ⌜ filled t (now (out .exit)) ≡ newTold frame resolution (at x y z) exponent flags (now (out .entry)) ⌝ }
+{
+    put_cell(out, cell::new(frame, resolution, x, y, z, exponent, flags))
+}
+
+// The plain cell at a place.
+#[no_mangle]
+pub extern "C" fn tishkolan_cell_from_coords(
+    frame: u8,
+    resolution: u8,
+    x: i32,
+    y: i32,
+    z: i32,
+    out: &mut [u8],
+) -> RefusalTold
+    ensures { λ t. ⌜ filled t (now (out .exit)) ≡ newTold frame resolution (at x y z) 0 0 (now (out .entry)) ⌝ }
+{
+    put_cell(out, cell::from_coords(frame, resolution, x, y, z))
+}
+
+#[no_mangle]
+pub extern "C" fn tishkolan_cell_parent(cell: &[u8], out: &mut [u8]) -> RefusalTold
+    ensures { λ t. ⌜ filled t (now (out .exit)) ≡ parentTold (now (cell .entry)) (now (out .entry)) ⌝ }
+{
+    let given = cell::from_bytes(cell);
+    match given {
+        CellAnswer::Refused(r) => told::told(r),
+        CellAnswer::Is(c) => put_cell(out, cell::parent(c)),
+    }
+}
+
+#[no_mangle]
+pub extern "C" fn tishkolan_cell_ancestor(
+    cell: &[u8],
+    resolution: u8,
+    out: &mut [u8],
+) -> RefusalTold
+    ensures { λ t. ⌜ filled t (now (out .exit)) ≡ ancestorTold (now (cell .entry)) resolution (now (out .entry)) ⌝ }
+{
+    let given = cell::from_bytes(cell);
+    match given {
+        CellAnswer::Refused(r) => told::told(r),
+        CellAnswer::Is(c) => put_cell(out, cell::ancestor(c, resolution)),
+    }
+}
+
+// The fields of a cell, as they were packed.
+fn fields(c: Cell) -> FieldsTold
+    ensures { λ t. ⌜ t ≡ fieldsOf c ⌝ }
+{
+    FieldsTold {
+        refusal: told::answered(),
+        frame: cell::frame(c),
+        resolution: cell::resolution(c),
+        exponent: cell::exponent(c),
+        flags: cell::flags(c),
+        reserved: cell::reserved(c),
+        x: cell::x(c),
+        y: cell::y(c),
+        z: cell::z(c),
+    }
+}
+
+fn no_fields(r: Refusal) -> FieldsTold
+    ensures { λ t. ⌜ t ≡ noFields r ⌝ }
+{
+    FieldsTold {
+        refusal: told::told(r),
+        frame: 0,
+        resolution: 0,
+        exponent: 0,
+        flags: 0,
+        reserved: 0,
+        x: 0,
+        y: 0,
+        z: 0,
+    }
+}
+
+#[no_mangle]
+pub extern "C" fn tishkolan_cell_fields(cell: &[u8]) -> FieldsTold
+    ensures { λ t. ⌜ t ≡ fieldsTold (now (cell .entry)) ⌝ }
+{
+    let given = cell::from_bytes(cell);
+    match given {
+        CellAnswer::Refused(r) => no_fields(r),
+        CellAnswer::Is(c) => fields(c),
+    }
+}
+
+// The place that a cell names, tested.
+#[no_mangle]
+pub extern "C" fn tishkolan_cell_lattice_coord(cell: &[u8]) -> CoordTold
+    ensures { λ t. ⌜ t ≡ latticeCoordTold (now (cell .entry)) ⌝ }
+{
+    let given = cell::from_bytes(cell);
+    match given {
+        CellAnswer::Refused(r) => told::of_coord(CoordAnswer::Refused(r)),
+        CellAnswer::Is(c) => told::of_coord(cell::lattice_coord(c)),
+    }
+}
+
+// 1 for true, 0 for false.
+#[no_mangle]
+pub extern "C" fn tishkolan_cell_is_plain(cell: &[u8]) -> NumberTold
+    ensures { λ t. ⌜ t ≡ isPlainTold (now (cell .entry)) ⌝ }
+{
+    let given = cell::from_bytes(cell);
+    match given {
+        CellAnswer::Refused(r) => told::no_number(r),
+        CellAnswer::Is(c) => {
+            if cell::is_plain(c) {
+                return told::number(1);
+            }
+            told::number(0)
+        }
+    }
+}
+
+fn order_number(o: Order) -> i32
+    ensures { λ n. ⌜ n ≡ orderNumber o ⌝ }
+{
+    match o {
+        Order::Below => -1,
+        Order::Same => 0,
+        Order::Above => 1,
+    }
+}
+
+// -1, 0 or 1 as the first is below, the same as or above the second.
+#[no_mangle]
+pub extern "C" fn tishkolan_cell_compare(first: &[u8], second: &[u8]) -> NumberTold
+    ensures { λ t. ⌜ t ≡ compareTold (now (first .entry)) (now (second .entry)) ⌝ }
+{
+    let given = both(first, second);
+    match given {
+        PairAnswer::Refused(r) => told::no_number(r),
+        PairAnswer::Are(p) => told::number(order_number(cell::compare(p.first, p.second))),
+    }
+}
+
+// That nothing lies between is told as an answer.
+fn of_between(b: Between) -> RefusalTold
+    ensures { λ t. ⌜ t ≡ ofBetween b ⌝ }
+{
+    match b {
+        Between::Nothing => told::answered(),
+        Between::Refused(r) => told::told(r),
+    }
+}
+
+#[no_mangle]
+pub extern "C" fn tishkolan_cell_between(first: &[u8], second: &[u8]) -> RefusalTold
+    ensures { λ t. ⌜ t ≡ betweenTold (now (first .entry)) (now (second .entry)) ⌝ }
+{
+    let given = both(first, second);
+    match given {
+        PairAnswer::Refused(r) => told::told(r),
+        PairAnswer::Are(p) => of_between(cell::cell_between(p.first, p.second)),
+    }
+}
+
+#[no_mangle]
+pub extern "C" fn tishkolan_cell_distance(first: &[u8], second: &[u8]) -> BitsTold
+    ensures { λ t. ⌜ t ≡ distanceTold (now (first .entry)) (now (second .entry)) ⌝ }
+{
+    let given = both(first, second);
+    match given {
+        PairAnswer::Refused(r) => told::no_bits(r),
+        PairAnswer::Are(p) => told::of_distance(distance::distance_to(
+            cell::coord(p.first),
+            cell::coord(p.second),
+        )),
+    }
+}
+
+#[no_mangle]
+pub extern "C" fn tishkolan_cell_manhattan_distance(first: &[u8], second: &[u8]) -> NumberTold
+    ensures { λ t. ⌜ t ≡ manhattanTold (now (first .entry)) (now (second .entry)) ⌝ }
+{
+    let given = both(first, second);
+    match given {
+        PairAnswer::Refused(r) => told::no_number(r),
+        PairAnswer::Are(p) => told::of_number(cell::manhattan_distance_to(p.first, p.second)),
+    }
+}
+
+fn put_neighbors(out: &mut [u8], cells: [Cell; 14])
+    requires { ⌜ 224 ≤ length (now out) ⌝ }
+    ensures { λ _. ⌜ now (out .exit) ≡ fronted (cellsBytes cells) (now (out .entry)) ⌝ }
+{
+    let mut i = 0;
+    while i < 14 {
+        cell::write_at(out, 16 * i, cells[i]);
+        i += 1;
+    }
+}
+
+fn put_children(out: &mut [u8], cells: [Cell; 8])
+    requires { ⌜ 128 ≤ length (now out) ⌝ }
+    ensures { λ _. ⌜ now (out .exit) ≡ fronted (cellsBytes cells) (now (out .entry)) ⌝ }
+{
+    let mut i = 0;
+    while i < 8 {
+        cell::write_at(out, 16 * i, cells[i]);
+        i += 1;
+    }
+}
+
+// The 14 neighbours, in the table's order.
+#[no_mangle]
+pub extern "C" fn tishkolan_cell_neighbors(cell: &[u8], out: &mut [u8]) -> RefusalTold
+    ensures { λ t. ⌜ filled t (now (out .exit)) ≡ neighborsTold (now (cell .entry)) (now (out .entry)) ⌝ }
+{
+    let given = cell::from_bytes(cell);
+    match given {
+        CellAnswer::Refused(r) => told::told(r),
+        CellAnswer::Is(c) => {
+            let found = cell::get_neighbors(c);
+            let outcome = found.outcome;
+            let cells = found.cells;
+            match outcome {
+                Outcome::Refused(r) => told::told(r),
+                Outcome::Answered => {
+                    if out.len() < 224 {
+                        return told::told(Refusal::NoRoom(Room::Output));
+                    }
+                    put_neighbors(out, cells);
+                    told::answered()
+                }
+            }
+        }
+    }
+}
+
+// The 8 children, in the table's order.
+#[no_mangle]
+pub extern "C" fn tishkolan_cell_children(cell: &[u8], out: &mut [u8]) -> RefusalTold
+    ensures { λ t. ⌜ filled t (now (out .exit)) ≡ childrenTold (now (cell .entry)) (now (out .entry)) ⌝ }
+{
+    let given = cell::from_bytes(cell);
+    match given {
+        CellAnswer::Refused(r) => told::told(r),
+        CellAnswer::Is(c) => {
+            let found = cell::get_children(c);
+            let outcome = found.outcome;
+            let cells = found.cells;
+            match outcome {
+                Outcome::Refused(r) => told::told(r),
+                Outcome::Answered => {
+                    if out.len() < 128 {
+                        return told::told(Refusal::NoRoom(Room::Output));
+                    }
+                    put_children(out, cells);
+                    told::answered()
+                }
+            }
+        }
+    }
+}
