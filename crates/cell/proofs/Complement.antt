@@ -11,10 +11,6 @@ use mir.Syntax.{w32}
 use mir.Val.{SFits, toZ, ofZ}
 use mir.Facts.{toZ-ofZ, toZ-pos}
 
--- a number is that of its bits
-pub kept : (z : ℤ) → mag z < 2 ^ 31 → toZ w32 (ofZ w32 z) ≡ z
-kept z h = toZ-ofZ (record { sfits = h })
-
 -- a negative number, raised by half the range
 pub down : (z : ℤ) → SFits w32 z → ltZ z (pos 0) ≡ true → toZ w32 (ofZ w32 z) -ℤ negsuc 2147483647 ≡ pos (2147483648 - suc (mag z))
 down (pos n) f e = absurd (omega (arith, ltb-true n 0 e))

@@ -1,4 +1,3 @@
-mod Answers
 mod Complement
 mod Filled
 pub mod OneAnswer

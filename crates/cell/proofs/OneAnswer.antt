@@ -1,12 +1,10 @@
--- Two answers that meet a public function's contract agree, and so does what they leave in lent memory. `Post` is what Rattle made of the source's `ensures`, so these
--- theorems speak of the contract itself. Assumes nothing.
+-- Two answers that meet a public function's contract agree, and so does what they leave in lent memory. Assumes nothing.
 use mathlib.Core.Path.{_≡_, sym, _∙_}
-use mathlib.Core.List.{List}
-use Prim.Native.Nat.{ℕ}
 use contract.Lifetimes.{Lfts}
 use denote.Ref.{now}
 use denote.Triple.Clauses.{AtExit}
-use borrow.Fn.Kinds.{PK, RK, Out, Dens, resT, endedOf}
+use borrow.Fn.Kinds.{Dens, resT, endedOf}
+use Rattle.refusal.specs.OneAnswer.{OneAnswer}
 use Rattle.cell.proofs.frame.Kinds as frame-kinds
 use Rattle.cell.proofs.frame.Reads as frame
 use Rattle.cell.proofs.resolution.Kinds as resolution-kinds
@@ -65,11 +63,6 @@ use Rattle.cell.proofs.from_bytes.Kinds as from-bytes-kinds
 use Rattle.cell.proofs.from_bytes.Reads as from-bytes
 use Rattle.cell.proofs.write_at.Kinds as write-at-kinds
 use Rattle.cell.proofs.write_at.Reads as write-at
-
--- the arguments decide the answer
-abbrev pub OneAnswer : (n : ℕ) (ps : List (PK n)) (r : RK n) → Out n ps r → Type 0
-OneAnswer n ps r Post =
-    (κs : Lfts n) (a : Dens κs ps) (z z′ : resT r κs .Denot) (e e′ : AtExit (endedOf n ps r) κs) → Post κs a z e → Post κs a z′ e′ → z ≡ z′
 
 pub frame-one : OneAnswer 0 frame-kinds.ps frame-kinds.r frame.Post
 frame-one κs a z z′ e e′ p q = p ∙ sym q

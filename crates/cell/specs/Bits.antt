@@ -6,11 +6,6 @@ use native.Mathlib.Nat.{div-add-mod', div-div-eq-div-mul, div-eq-of-lt, mod-mod,
 use native.Mathlib.Omega.{arith}
 use borrow.Author.Tests.{ltb-true, ltb-false, lt-ltb, le-ltb, eqb-true, eqb-false, eq-eqb, ne-eqb}
 use lib.Dec.{eqb, ltb}
-use lib.IntN.{ℤ}
-use mir.Syntax.{w32}
-use mir.Val.{SFits, toZ, ofZ}
-use mir.Facts.{toZ-ofZ}
-use Rattle.lattice.specs.Lattice.{at}
 
 -- ---- the low word: x, flags, exponent, resolution, frame
 
@@ -61,12 +56,6 @@ pub record HighParts (z y word : ℕ) : Type 0 where
 
 pub high-parts : (z y : ℕ) → z < 2 ^ 32 → y < 2 ^ 32 → HighParts z y (z * 4294967296 + y)
 high-parts z y hz hy = record { is-z = omega arith; is-y = omega arith; is-word = omega arith }
-
--- ---- the coordinates
-
--- a place is that of its coordinates' bits
-pub kept-place : {x y z : ℤ} → SFits w32 x → SFits w32 y → SFits w32 z → at (toZ w32 (ofZ w32 x)) (toZ w32 (ofZ w32 y)) (toZ w32 (ofZ w32 z)) ≡ at x y z
-kept-place f g h = λ i. at (toZ-ofZ f i) (toZ-ofZ g i) (toZ-ofZ h i)
 
 -- ---- two digits as one number, high * base + low with low below the base: they are compared as the numbers are
 

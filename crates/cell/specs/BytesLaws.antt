@@ -16,6 +16,7 @@ use Rattle.words.specs.Word.{big, number, ordered, word, stored, Bytes, Apart}
 use Rattle.words.specs.Laws.{length-stored, word-stored, word-stored-apart, bytesOf-part, word-drop, word-lt, word-split-big}
 use Rattle.cell.specs.declared.CellAnswer.the-variants.{Is}
 use Rattle.cell.specs.Bytes.{cellAt, cellBytes, cellStored, fromBytesOf, bytesLess}
+use Rattle.cell.specs.Stored.{length-cellBytes}
 use Rattle.cell.specs.Cell.{lessCell}
 use Rattle.cell.specs.Stored as bytes
 use Rattle.cell.specs.Stored.{length-cellBytes}

@@ -2,7 +2,7 @@
 -- `List·Memᴰ k l` says that k is a member of l: it is a place at which l has k. Assumes nothing.
 use mathlib.Core.Path.{_≡_, refl, sym, ap, ap₂, subst, _∙_}
 use mathlib.Core.Logic.{_↔_}
-use mathlib.Core.Bool.{Bool, true, false, cond, _&&_}
+use mathlib.Core.Bool.{Bool, true, false, cond}
 use mathlib.Core.List.{List·Memᴰ, Memᴰ·cast, Memᴰ·map, Memᴰ·of-map}
 use Prim.Native.Nat.{ℕ, _+_, _*_, _/_, _%_, _^_, _<_}
 use native.Mathlib.Nat.{div-add-mod'}
@@ -24,16 +24,16 @@ use Rattle.lattice.specs.declared.ParityAnswer.the-variants as parity
 use Rattle.lattice.specs.declared.CoordAnswer.{CoordAnswer}
 use Rattle.lattice.specs.declared.CoordAnswer.the-variants as coord
 use Rattle.lattice.specs.Lattice as lattice
-use Rattle.lattice.specs.Lattice.{at, isLatticePoint, parityOf, around, below, hasNeighborRoom, hasChildRoom, manhattan}
+use Rattle.lattice.specs.Lattice.{at, Fitting, isLatticePoint, parityOf, around, below, hasNeighborRoom, hasChildRoom, manhattan}
 use Rattle.lattice.specs.Laws as lattice-laws
 use Rattle.lattice.specs.Laws.{parity-point, neighbor-symmetric, room-fits, child-room-fits}
-use Rattle.lattice.specs.Fitting.{Fitting}
 use Rattle.lattice.specs.Middle.{middle}
-use Rattle.lattice.specs.Signs.{both}
+use Rattle.lattice.specs.Fields.{kept-same}
+use Rattle.lattice.specs.Signs.{three}
 use Rattle.cell.specs.declared.CellAnswer.the-variants.{Is}
 use Rattle.cell.specs.declared.Children.{Children}
 use Rattle.cell.specs.Cell.{frameOf, resolutionOf, exponentOf, flagsOf, reservedOf, coordOf, packed, newBy, newOf, isPlain, plainAt, plainTwin, sameCell, lessCell, nearCells, childCells, noChildren, childrenIn, childrenBy, childrenOf, parentAt, parentOf}
-use Rattle.cell.specs.Bits.{lowWord, low-parts, low-word, low-whole, high-parts, kept-place, same-digits}
+use Rattle.cell.specs.Bits.{lowWord, low-parts, low-word, low-whole, high-parts, same-digits}
 
 -- a cell as the code holds it: two words of 64 bits
 pub record Words (c : Cell) : Type 0 where
@@ -61,7 +61,7 @@ fields-packed frame resolution c exponent flags hf hr hg fits =
     record {
       frame-back = l .is-frame;
       resolution-back = l .is-resolution;
-      coord-back = (λ i. at (toZ w32 (l .is-x i)) (toZ w32 (h .is-y i)) (toZ w32 (h .is-z i))) ∙ kept-place (fits .in-x) (fits .in-y) (fits .in-z);
+      coord-back = (λ i. at (toZ w32 (l .is-x i)) (toZ w32 (h .is-y i)) (toZ w32 (h .is-z i))) ∙ kept-same fits;
       exponent-back = l .is-exponent;
       flags-back = l .is-flags;
       reserved-back = l .is-reserved;
@@ -111,10 +111,9 @@ new-reads-back frame resolution c exponent flags k hf hr hg fits e =
 pub plain-twin : (c : Cell) → Words c → isPlain c ≡ true → plainTwin c ≡ c
 unfolding isPlain plainTwin
 plain-twin c w e =
-    let h = both (eqb (exponentOf c) 0) (eqb (flagsOf c) 0 && eqb (reservedOf c) 0) e in
-    let g = both (eqb (flagsOf c) 0) (eqb (reservedOf c) 0) (h .1) in
-    ap₂ (packed (frameOf c) (resolutionOf c) (coordOf c)) (sym (eqb-true (exponentOf c) 0 (h .0))) (sym (eqb-true (flagsOf c) 0 (g .0)))
-    ∙ packed-fields c w (eqb-true (reservedOf c) 0 (g .1))
+    let h = three (eqb (exponentOf c) 0) (eqb (flagsOf c) 0) (eqb (reservedOf c) 0) e in
+    ap₂ (packed (frameOf c) (resolutionOf c) (coordOf c)) (sym (eqb-true (exponentOf c) 0 (h .0))) (sym (eqb-true (flagsOf c) 0 (h .1)))
+    ∙ packed-fields c w (eqb-true (reservedOf c) 0 (h .2))
 
 -- the plain cell at a place is plain
 pub plain-is-plain : (frame resolution : ℕ) (c : Coord) → frame < 256 → resolution < 256 → Fitting c → isPlain (plainAt frame resolution c) ≡ true

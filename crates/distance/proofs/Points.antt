@@ -2,33 +2,29 @@
 use mathlib.Core.Path.{_≡_, refl}
 use lib.IntN.{pos, negsuc}
 use lib.Ieee.{binary64, ofBits}
-use Rattle.refusal.specs.declared.Coord.{Coord}
 use Rattle.refusal.specs.declared.Refusal.the-variants.{InvalidParity, CoordOverflow}
-use Rattle.lattice.specs.Lattice.{at}
+use Rattle.lattice.specs.Lattice.{at, origin}
 use Rattle.distance.specs.declared.DistanceAnswer.the-variants.{Is, Refused}
 use Rattle.distance.specs.Distance.{distanceOf}
 
-origin : Coord
-origin = at (pos 0) (pos 0) (pos 0)
-
 -- the root of 3
 to-a-corner : distanceOf origin (at (pos 1) (pos 1) (pos 1)) ≡ Is (ofBits binary64 0x3FFB_B67A_E858_4CAA)
-unfolding origin distanceOf ofBits
+unfolding distanceOf ofBits
 to-a-corner = refl
 
 -- the root of 8
 across : distanceOf origin (at (pos 2) (pos 2) (pos 0)) ≡ Is (ofBits binary64 0x4006_A09E_667F_3BCD)
-unfolding origin distanceOf ofBits
+unfolding distanceOf ofBits
 across = refl
 
 -- a difference of +2147483648 leaves the 32-bit numbers
 too-far : distanceOf origin (at (negsuc 2147483647) (pos 0) (pos 0)) ≡ Refused CoordOverflow
-unfolding origin distanceOf
+unfolding distanceOf
 too-far = refl
 
 -- and one of -2147483648 does not
 just-fits : distanceOf (at (negsuc 2147483647) (pos 0) (pos 0)) origin ≡ Is (ofBits binary64 0x41E0_0000_0000_0000)
-unfolding origin distanceOf ofBits
+unfolding distanceOf ofBits
 just-fits = refl
 
 -- the first end's parity comes before the second's, and both before the differences
@@ -37,5 +33,5 @@ unfolding distanceOf
 first-refused = refl
 
 second-refused : distanceOf origin (at (negsuc 2147483647) (pos 1) (pos 0)) ≡ Refused (InvalidParity (at (negsuc 2147483647) (pos 1) (pos 0)))
-unfolding origin distanceOf
+unfolding distanceOf
 second-refused = refl

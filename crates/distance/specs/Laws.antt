@@ -1,10 +1,10 @@
 -- Laws of the Euclidean distance: where both ends are lattice points and the differences fit, the answer is a number. Assumes nothing.
 use mathlib.Core.Path.{_≡_, refl, sym, ap, _∙_, subst}
-use mathlib.Core.Bool.{Bool, true, false, not, _&&_}
+use mathlib.Core.Bool.{Bool, true, false, not}
 use Prim.Native.Nat.{ℕ, suc, _+_, _*_, _^_, _≤_, _<_}
 use native.Mathlib.Nat.{mul-le-mul, le-trans, pow-suc}
 use native.Mathlib.Omega.{arith}
-use lib.Dec.{T, leb, leb→le, lit<, lit≤}
+use lib.Dec.{T, lit<, lit≤}
 use lib.Pow.{pow-mono}
 use lib.IntN.{ℤ, pos, negsuc, _-ℤ_}
 use lib.Ieee.{Float, binary64, ofInt, round, add, mul, isNan}
@@ -15,7 +15,8 @@ use Rattle.refusal.specs.declared.Coord.{Coord}
 use Rattle.lattice.specs.declared.Parity.{Parity}
 use Rattle.lattice.specs.declared.ParityAnswer.{ParityAnswer}
 use Rattle.lattice.specs.declared.ParityAnswer.the-variants as parity
-use Rattle.lattice.specs.Lattice.{at, Fit, within, parityOf}
+use Rattle.lattice.specs.Lattice.{at, Fitting, within, parityOf}
+use Rattle.lattice.specs.Signs.{three, within-mag}
 use Rattle.root.specs.declared.Root.{Root}
 use Rattle.root.specs.declared.Root.the-variants as root
 use Rattle.root.specs.Root.{rootOf, rootWhole}
@@ -27,37 +28,19 @@ use Rattle.distance.specs.Whole.{WholeTo, rounded-whole, square-at, sum-
 
 -- ---- the test of the differences
 
-no-truth : {X : Type 0} → false ≡ true → X
-no-truth e = absurd (subst T (sym e) tt)
-
--- three tests that all passed
-three : (a b d : Bool) → (a && (b && d)) ≡ true → (a ≡ true) × ((b ≡ true) × (d ≡ true))
-three true true true e = (refl, (refl, refl))
-three true true false e = no-truth e
-three true false d e = no-truth e
-three false b d e = no-truth e
-
-small : (n : ℕ) → leb n 2147483647 ≡ true → n < 2147483648
-small n e = let h = leb→le n 2147483647 (subst T (sym e) tt) in omega arith
-
-and-true : (t : Bool) → (t && true) ≡ t
-and-true true = refl
-and-true false = refl
-
 fits : (d : ℤ) → within (negsuc 2147483647) (pos 2147483647) d ≡ true → SFits w32 d
-fits (pos n) e = record { sfits = small n e }
-fits (negsuc n) e = record { sfits = small n (sym (and-true (leb n 2147483647)) ∙ e) }
+fits d e = record { sfits = omega (arith, within-mag 2147483647 d e) }
 
 -- the first less the second, on each axis
 abbrev pub difference : Coord → Coord → Coord
 difference a b = at (a .x -ℤ b .x) (a .y -ℤ b .y) (a .z -ℤ b .z)
 
 -- differences that pass the test are 32-bit numbers
-pub differences-fit : (a b : Coord) → differencesFit a b ≡ true → Fit (difference a b)
+pub differences-fit : (a b : Coord) → differencesFit a b ≡ true → Fitting (difference a b)
 unfolding differencesFit
 differences-fit a b e =
     let h = three (differenceFits (a .x) (b .x)) (differenceFits (a .y) (b .y)) (differenceFits (a .z) (b .z)) e in
-    record { in-x = fits (a .x -ℤ b .x) (h .0); in-y = fits (a .y -ℤ b .y) (h .1 .0); in-z = fits (a .z -ℤ b .z) (h .1 .1) }
+    record { in-x = fits (a .x -ℤ b .x) (h .0); in-y = fits (a .y -ℤ b .y) (h .1); in-z = fits (a .z -ℤ b .z) (h .2) }
 
 -- ---- the square of the distance is a whole number of at most 2 ^ 64
 

@@ -8,7 +8,7 @@ use lib.Ieee.{Float, fin, binary64, ofBits, ofInt, add, mul}
 use Rattle.refusal.specs.declared.Coord.{Coord}
 use Rattle.lattice.specs.declared.Parity.{Parity}
 use Rattle.lattice.specs.declared.ParityAnswer.the-variants as parity
-use Rattle.lattice.specs.Lattice.{at, moved, within, isOdd, parityOf, neighborSteps, around}
+use Rattle.lattice.specs.Lattice.{at, origin, moved, within, isOdd, parityOf, neighborSteps, around}
 use Rattle.lattice.specs.Laws.{parity-point, point-parity, neighbors-are-points}
 use Rattle.lattice.specs.Tables.{Each, at-member}
 use Rattle.root.specs.Root.{rootOf}
@@ -44,9 +44,6 @@ tested-by-difference a b c d e = ap (λ (t : Bool). distanceIn t a b) (fit-by-di
 pub distance-by-difference : (a b c d : Coord) {p q r s : Parity} → parityOf a ≡ parity.Is p → parityOf b ≡ parity.Is q → parityOf c ≡ parity.Is r → parityOf d ≡ parity.Is s → difference a b ≡ difference c d → distanceOf a b ≡ distanceOf c d
 distance-by-difference a b c d in-a in-b in-c in-d e =
     distance-tested a b in-a in-b refl ∙ tested-by-difference a b c d e ∙ sym (distance-tested c d in-c in-d refl)
-
-abbrev origin : Coord
-origin = at (pos 0) (pos 0) (pos 0)
 
 zero-from-origin : distanceIn (differencesFit origin origin) origin origin ≡ Is (fin false 0 (pos 0))
 unfolding differencesFit squaredDistance rootOf

@@ -100,20 +100,17 @@ module _ (a b : ℕ) where
       go false y f g = refl
 
 module _ (a b : ℕ) (A : a < 2 ^ 64) (B : b < 2 ^ 64) where
+  not-zero : a ≡ 0 → 9223372036854775808 ≤ a → ⊥
+  not-zero x l = omega arith
+
   signed-numbers : (s t : Bool) → negative a ≡ s → negative b ≡ t
       → cond (below s (unsigned a) t (unsigned b)) true (cond (below t (unsigned b) s (unsigned a)) false (equals a b)) ≡ atOrBelow s (unsigned a) t (unsigned b)
   signed-numbers false false e f = in-order (unsigned a) (unsigned b) (equals a b) (λ _. equals-true a b (λ _ y. no y (leb-false 9223372036854775808 b f)))
     where
       no : b ≡ 9223372036854775808 → b < 9223372036854775808 → ⊥
       no y l = omega arith
-  signed-numbers true true e f = in-order (unsigned b) (unsigned a) (equals a b) (λ _. equals-true a b (λ x _. no x (leb-true 9223372036854775808 a e)))
-    where
-      no : a ≡ 0 → 9223372036854775808 ≤ a → ⊥
-      no x l = omega arith
-  signed-numbers true false e f = unless-zero (unsigned a + unsigned b) true (equals a b) (λ _. equals-true a b (λ x _. no x (leb-true 9223372036854775808 a e)))
-    where
-      no : a ≡ 0 → 9223372036854775808 ≤ a → ⊥
-      no x l = omega arith
+  signed-numbers true true e f = in-order (unsigned b) (unsigned a) (equals a b) (λ _. equals-true a b (λ x _. not-zero x (leb-true 9223372036854775808 a e)))
+  signed-numbers true false e f = unless-zero (unsigned a + unsigned b) true (equals a b) (λ _. equals-true a b (λ x _. not-zero x (leb-true 9223372036854775808 a e)))
   signed-numbers false true e f =
       unless-zero (unsigned b + unsigned a) false (equals a b)
       (λ z. equals-false a b (plus z (leb-false 9223372036854775808 a e)) (minus z (leb-true 9223372036854775808 b f)))

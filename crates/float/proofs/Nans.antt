@@ -1,23 +1,14 @@
--- What operations do with a NaN: a pattern that `nanBits` passes has the value `nan`, and an operation that takes `nan` to `nan` on either side answers with the one pattern that is written for it. Assumes nothing.
+-- What operations do with a NaN: an operation that takes `nan` to `nan` on either side answers with the one pattern that is written for it. Assumes nothing.
 use mathlib.Core.Path.{_≡_, refl, sym, _∙_, subst}
 use mathlib.Core.Bool.{Bool, true, false, not}
 use Prim.Native.Nat.{ℕ}
 use lib.Dec.{T}
 use lib.Ieee.{Float, nan, inf, fin, binary64, ofBits, toBits, nanBits, isNan, lt, add, mul, ne}
 use lib.Ieee.Compare.{differs-from-itself, nan-differs}
-use lib.Ieee.Bits.{nanBits-is}
+use Rattle.float.specs.Laws.{nan-value}
 
 pub fails : {b : Bool} → b ≡ false → T (not b)
 fails e = subst (λ (t : Bool). T (not t)) (sym e) tt
-
-is-nan : (x : Float) → isNan x ≡ true → x ≡ nan
-unfolding isNan
-is-nan nan e = refl
-is-nan (inf s) e = cc
-is-nan (fin s m k) e = cc
-
-pub nan-value : (a : ℕ) → nanBits binary64 a ≡ true → ofBits binary64 a ≡ nan
-nan-value a e = is-nan (ofBits binary64 a) (sym (nanBits-is binary64 a) ∙ e)
 
 -- ---- the test `x != x`
 pub number : (x : Float) → ne x x ≡ false → T (not (isNan x))

@@ -1,12 +1,12 @@
 -- Rounding of a number above zero, N / D as a fraction: its double is exact, and half of one more than the double's whole part is the nearest whole number. Assumes nothing.
 use mathlib.Core.Path.{_≡_, refl, sym, ap, _∙_, subst}
-use Prim.Native.Nat.{ℕ, zero, suc, _+_, _-_, _*_, _/_, _%_, _^_, _≤_, _<_, min}
-use native.Mathlib.Nat.{le-trans, le-of-eq, mul-one, mul-assoc, mul-comm, mul-left-comm, mul-pos, zero-mul, div-div-eq-div-mul, add-div-right, div-lt-iff-lt-mul, lt-of-lt-of-le, le-of-lt, lt-of-not-le, not-le-of-lt, sub-add-cancel, suc-mul, zero-lt-suc}
+use Prim.Native.Nat.{ℕ, zero, suc, _+_, _-_, _*_, _/_, _%_, _^_, _≤_, _<_}
+use native.Mathlib.Nat.{le-trans, le-of-eq, mul-one, mul-assoc, mul-comm, mul-pos, zero-mul, div-div-eq-div-mul, add-div-right, div-lt-iff-lt-mul, lt-of-lt-of-le, le-of-lt, lt-of-not-le, not-le-of-lt, sub-add-cancel, zero-lt-suc}
 use native.Mathlib.Omega.{arith}
 use mathlib.Core.Bool.{Bool, true, false, _&&_, true≢false, false≢true}
 use lib.IntN.{ℤ, pos, negsuc}
 use lib.Dec.{T, leb, ltb, eqb, leb→le, ltb→lt, lt→ltb, lit<, lit≤}
-use borrow.Author.Tests.{ltb-false}
+use borrow.Author.Tests.{ltb-true, ltb-false}
 use lib.Pow.{pow-add, pow-pos, pow-mono, pow-lt, shl-lt}
 use lib.Ieee.{Float, nan, inf, fin, binary64, up, down, round, mul, lt, fits, toUnsigned, ofInt}
 use lib.Ieee.Fits.{down-pos, and-l, and-r, round-fits}
@@ -14,9 +14,7 @@ use lib.Ieee.Exact.{HasValue, round-exact}
 use lib.Ieee.Nearest.{div-same}
 use lib.Ieee.Back.{round-whole, whole-unique}
 use Rattle.float.specs.Round.{wholeOf, wholeSize, roundAway}
-
-pub so : {b : Bool} → b ≡ true → T b
-so e = subst T (sym e) tt
+use Rattle.float.specs.Laws.{so, digits-of, size-within, above-minus-one, cut-is}
 
 abbrev pub nought : Float
 nought = fin false 0 (pos 0)
@@ -25,14 +23,15 @@ nought = fin false 0 (pos 0)
 abbrev pub coarse : Float
 coarse = fin false 1 (pos 52)
 
+-- a zero is not above one
+not-above : (d u : ℕ) → ltb (0 * d) (0 * u * 1) ≡ true → ⊥
+not-above d u h = none (ltb-true (0 * d) (0 * u * 1) h)
+  where
+    none : 0 * d < 0 * u * 1 → ⊥
+    none h = omega arith
+
 -- ---- what `fits` says of a number that is not zero
 module _ (s : Bool) (m : ℕ) (e : ℤ) (t : T (fits binary64 (fin s (suc m) e))) where
-  pub digits-below : suc m < 9007199254740992
-  unfolding fits
-  digits-below =
-      ltb→lt (suc m) 9007199254740992 (and-r (eqb (suc m % 2) 1) (ltb (suc m) 9007199254740992) (and-l (eqb (suc m % 2) 1 && ltb (suc m) 9007199254740992) (leb (down e) (2 ^ 1074))
-      (and-l (eqb (suc m % 2) 1 && ltb (suc m) 9007199254740992 && leb (down e) (2 ^ 1074)) (ltb (suc m * up e) (2 ^ 1024 * down e)) t)))
-
   pub down-within : down e ≤ 2 ^ 1074
   unfolding fits
   down-within =
@@ -58,15 +57,15 @@ twice m e = round binary64 false (m * up e * 2) (down e * 1)
 twice-value : (m : ℕ) (e : ℤ) → T (fits binary64 (fin false (suc m) e)) → suc m * up e < 4503599627370496 * down e → HasValue (twice (suc m) e) false (suc m * up e * 2) (down e * 1)
 twice-value m (pos k) t h =
     let n = suc m in
-    round-exact binary64 false (n * 2 ^ k * 2) 1 n (k + 1075) (lit< tt) (digits-below false m (pos k) t)
+    round-exact binary64 false (n * 2 ^ k * 2) 1 n (k + 1075) (lit< tt) (digits-of false (suc m) (pos k) t)
     (subst (λ (x : ℕ). x < 2 ^ 2098) (mul-assoc n (2 ^ k) (2 ^ 1075) ∙ ap (λ (x : ℕ). n * x) (sym (pow-add 2 k 1075)))
     (lt-of-lt-of-le (shl-lt {a = n * 2 ^ k} 52 1075 (subst (λ (x : ℕ). n * 2 ^ k < x) (mul-one 4503599627370496) h)) (pow-mono {i = 1127} {j = 2098} (lit≤ tt))))
     (mul-assoc (n * 2 ^ k) 2 (2 ^ 1074) ∙ mul-assoc n (2 ^ k) (2 ^ 1075) ∙ ap (λ (x : ℕ). n * x) (sym (pow-add 2 k 1075)) ∙ sym (mul-one (n * 2 ^ (k + 1075))))
 twice-value m (negsuc k) t h =
     let n = suc m in
     let s : suc k ≤ 1075 = more (exponent-within k (down-within false m (negsuc k) t)) in
-    round-exact binary64 false (n * 1 * 2) (2 ^ suc k * 1) n (1075 - suc k) (mul-pos (pow-pos (suc k)) (lit< tt)) (digits-below false m (negsuc k) t)
-    (lt-of-lt-of-le (shl-lt 53 (1075 - suc k) (digits-below false m (negsuc k) t)) (pow-mono (room (suc k))))
+    round-exact binary64 false (n * 1 * 2) (2 ^ suc k * 1) n (1075 - suc k) (mul-pos (pow-pos (suc k)) (lit< tt)) (digits-of false (suc m) (negsuc k) t)
+    (lt-of-lt-of-le (shl-lt 53 (1075 - suc k) (digits-of false (suc m) (negsuc k) t)) (pow-mono (room (suc k))))
     (mul-assoc (n * 1) 2 (2 ^ 1074)
     ∙ ap (λ (x : ℕ). x * 2 ^ 1075) (mul-one n)
     ∙ ap (λ (x : ℕ). n * x) (ap (λ (x : ℕ). 2 ^ x) (sym (sub-add-cancel s)) ∙ pow-add 2 (1075 - suc k) (suc k))
@@ -84,10 +83,7 @@ module _ (p q : ℕ) (some : 0 < q) (below : p / q < 18446744073709551616) where
   pub cast-above : (z : Float) → HasValue z false p q → T (lt (fin true 1 (pos 0)) z)
   unfolding lt
   cast-above (fin true n d) v = absurd (true≢false (v .0))
-  cast-above (fin false n d) v = lt→ltb 0 (1 * down d + n * up d * 1) (more (down d) (n * up d * 1) (down-pos d))
-    where
-      more : (d b : ℕ) → 0 < d → 0 < 1 * d + b
-      more d b h = omega arith
+  cast-above (fin false n d) v = above-minus-one n d
 
   pub cast-below : (z : Float) → HasValue z false p q → T (lt z (fin false 1 (pos 64)))
   unfolding lt
@@ -100,10 +96,9 @@ module _ (p q : ℕ) (some : 0 < q) (below : p / q < 18446744073709551616) where
   pub cast-is : (z : Float) → HasValue z false p q → toUnsigned 64 z ≡ p / q
   unfolding toUnsigned
   cast-is (fin true n d) v = absurd (true≢false (v .0))
-  cast-is (fin false n d) v = ap (λ (x : ℕ). min x 18446744073709551615) (div-same (n * up d) (down d) p q (down-pos d) some (v .1)) ∙ uncapped (p / q) below
-    where
-      uncapped : (a : ℕ) → a < 18446744073709551616 → min a 18446744073709551615 ≡ a
-      uncapped a h = omega arith
+  cast-is (fin false n d) v =
+      let same = div-same (n * up d) (down d) p q (down-pos d) some (v .1) in
+      cut-is n d (subst (λ (x : ℕ). x < 18446744073709551616) (sym same) below) ∙ same
 
 -- ---- halves
 -- half of one more than the whole part of the double is the whole part of N / D + 1 / 2
@@ -113,22 +108,6 @@ halves N D h =
     ∙ div-div-eq-div-mul (N * 2 + D) D 2
     ∙ ap (λ (x : ℕ). (x + D) / (D * 2)) (mul-comm N 2)
     ∙ ap (λ (x : ℕ). (2 * N + D) / x) (mul-comm D 2)
-
--- a number up to c rounds to at most c
-pub within : (N D c : ℕ) → 0 < D → N ≤ c * D → (2 * N + D) / (2 * D) ≤ c
-within N D c h l = less ((2 * N + D) / (2 * D)) c (div-lt-iff-lt-mul (double h) .1 (subst (λ (x : ℕ). 2 * N + D < x) (sym (scale c D)) (room N D (c * D) h l)))
-  where
-    double : 0 < D → 0 < 2 * D
-    double h = omega arith
-
-    scale : (c D : ℕ) → suc c * (2 * D) ≡ 2 * (c * D) + 2 * D
-    scale c D = let a = suc-mul c (2 * D) in let b = mul-left-comm c 2 D in omega arith
-
-    room : (N D P : ℕ) → 0 < D → N ≤ P → 2 * N + D < 2 * P + 2 * D
-    room N D P h l = omega arith
-
-    less : (a c : ℕ) → a < suc c → a ≤ c
-    less a c h = omega arith
 
 -- ---- a number above zero and below 2 ^ 52, doubled and cut
 pub record Doubled (x : Float) (z : Float) : Type 0 where
@@ -143,10 +122,7 @@ doubled nan t a b = absurd (false≢true a)
 doubled (inf true) t a b = absurd (false≢true a)
 doubled (inf false) t a b = absurd (false≢true b)
 doubled (fin true m e) t a b = absurd (false≢true a)
-doubled (fin false zero e) t a b = absurd (none (down e) (up e) (ltb→lt (0 * down e) (0 * up e * 1) (so a)))
-  where
-    none : (d u : ℕ) → 0 * d < 0 * u * 1 → ⊥
-    none d u h = omega arith
+doubled (fin false zero e) t a b = absurd (not-above (down e) (up e) a)
 doubled (fin false (suc m) e) t a b =
     let N = suc m * up e in
     let D = down e in
@@ -173,10 +149,7 @@ doubled (fin false (suc m) e) t a b =
     more : (a : ℕ) → a < 9007199254740992 → a < 18446744073709551616
     more a h = omega arith
 
--- the nearest whole number to a number up to c is up to c, and as a float it is the rounded number
-pub size-within : (m : ℕ) (e : ℤ) (c : ℕ) → m * up e ≤ c * down e → wholeOf m e ≤ c
-size-within m e c h = subst (λ (x : ℕ). (x + down e) / (2 * down e) ≤ c) (sym (mul-assoc 2 m (up e))) (within (m * up e) (down e) c (down-pos e) h)
-
+-- as a float the nearest whole number is the rounded number
 pub record Whole (x : Float) : Type 0 where
   pub within : wholeSize x ≤ 4503599627370496
   pub float : ofInt binary64 (pos (wholeSize x)) ≡ roundAway x
@@ -204,7 +177,7 @@ module _ (s : Bool) (m k : ℕ) (t : T (fits binary64 (fin s (suc m) (pos k)))) 
   rounded-value =
       let n = suc m in
       let scaled : n * 2 ^ k * 2 ^ 1074 ≡ n * 2 ^ (k + 1074) = mul-assoc n (2 ^ k) (2 ^ 1074) ∙ ap (λ (x : ℕ). n * x) (sym (pow-add 2 k 1074)) in
-      round-exact binary64 s (n * 2 ^ k) 1 n (k + 1074) (lit< tt) (digits-below s m (pos k) t)
+      round-exact binary64 s (n * 2 ^ k) 1 n (k + 1074) (lit< tt) (digits-of s (suc m) (pos k) t)
       (subst (λ (x : ℕ). x < 2 ^ 2098) scaled (shl-lt {a = n * 2 ^ k} 1024 1074 (subst (λ (x : ℕ). n * 2 ^ k < x) (mul-one (2 ^ 1024)) (under-top s m (pos k) t))))
       (scaled ∙ sym (mul-one (n * 2 ^ (k + 1074))))
 
@@ -220,13 +193,10 @@ unfolding lt roundAway
 large-stays nan t a b = absurd (false≢true a)
 large-stays (inf s) t a b = refl
 large-stays (fin true m e) t a b = absurd (false≢true a)
-large-stays (fin false zero e) t a b = absurd (none (down e) (up e) (ltb→lt (0 * down e) (0 * up e * 1) (so a)))
-  where
-    none : (d u : ℕ) → 0 * d < 0 * u * 1 → ⊥
-    none d u h = omega arith
+large-stays (fin false zero e) t a b = absurd (not-above (down e) (up e) a)
 large-stays (fin false (suc m) (pos k)) t a b = sym (whole-stays false m k t)
 large-stays (fin false (suc m) (negsuc k)) t a b =
-    absurd (few (2 ^ suc k) (digits-below false m (negsuc k) t) (pow-mono {i = 1} {j = suc k} (zero-lt-suc k)) (ltb-false (suc m * 1 * 1) (4503599627370496 * 2 ^ suc k) b))
+    absurd (few (2 ^ suc k) (digits-of false (suc m) (negsuc k) t) (pow-mono {i = 1} {j = suc k} (zero-lt-suc k)) (ltb-false (suc m * 1 * 1) (4503599627370496 * 2 ^ suc k) b))
   where
     few : (P : ℕ) → suc m < 9007199254740992 → 2 ≤ P → 4503599627370496 * P ≤ suc m * 1 * 1 → ⊥
     few P a b c = omega arith
@@ -238,7 +208,7 @@ away-value s zero e t = round-whole binary64 s (wholeOf 0 e) (le-trans (size-wit
 away-value s (suc m) (pos k) t = subst (λ (n : ℕ). HasValue (round binary64 s n 1) s n 1) (sym (itself s m k t)) (rounded-value s m k t)
 away-value s (suc m) (negsuc k) t =
     round-whole binary64 s (wholeOf (suc m) (negsuc k))
-    (size-within (suc m) (negsuc k) 9007199254740992 (less (2 ^ suc k) (digits-below s m (negsuc k) t) (pow-pos (suc k))))
+    (size-within (suc m) (negsuc k) 9007199254740992 (less (2 ^ suc k) (digits-of s (suc m) (negsuc k) t) (pow-pos (suc k))))
   where
     less : (P : ℕ) → suc m < 9007199254740992 → 0 < P → suc m * 1 ≤ 9007199254740992 * P
     less P a b = omega arith

@@ -1,9 +1,9 @@
 -- Rounding and the sign: a number above zero, one below and a zero. The negative of a rounded number is the negative rounded, and a zero stays. Assumes nothing.
 use mathlib.Core.Path.{_≡_, refl, sym, ap, _∙_, subst}
 use Prim.Native.Nat.{ℕ, zero, suc, _+_, _*_, _^_, _≤_, _<_, zero-le}
-use native.Mathlib.Nat.{mul-one, zero-mul, mul-pos, zero-lt-suc, le-of-eq, le-of-lt}
+use native.Mathlib.Nat.{mul-one, zero-mul, mul-pos, zero-lt-suc, le-of-eq}
 use native.Mathlib.Omega.{arith}
-use mathlib.Core.Bool.{Bool, true, false, not, cond, _&&_, _||_, false≢true}
+use mathlib.Core.Bool.{Bool, true, false, not, cond, false≢true}
 use lib.IntN.{ℤ, pos, negℤ}
 use lib.Dec.{T, ltb, eqb}
 use borrow.Author.Tests.{ltb-true, ltb-false, eqb-true, lt-ltb}
@@ -11,7 +11,8 @@ use lib.Ieee.{Float, nan, inf, fin, Format, binary64, prec, emax, low, up, down,
 use lib.Ieee.Fits.{round-is, round-fits, up-pos, down-pos}
 use lib.Ieee.Back.{round-whole, whole-unique}
 use Rattle.float.specs.Round.{wholeOf, wholeSize, roundAway, wholeAway}
-use Rattle.float.proofs.Rounding.{nought, coarse, size-within}
+use Rattle.float.specs.Laws.{at-most, size-within}
+use Rattle.float.proofs.Rounding.{nought, coarse}
 
 odd-neg : (d : ℕ) (s : Bool) (q k l : ℕ) → neg (odd d s q k l) ≡ odd d (not s) q k l
 unfolding odd neg
@@ -117,15 +118,6 @@ pub record Modest (x : Float) : Type 0 where
   pub above : lt nought x ≡ true
   pub below : lt x coarse ≡ true
   pub size : wholeSize x ≤ 1073741824
-
--- below, or level
-at-most : (a b : ℕ) (q t : Bool) → (q ≡ true → a ≤ b) → (ltb a b || (q && t)) ≡ true → a ≤ b
-at-most a b q t g h = go (ltb a b) q (ltb-true a b) g h
-  where
-    go : (p q : Bool) → (p ≡ true → a < b) → (q ≡ true → a ≤ b) → (p || (q && t)) ≡ true → a ≤ b
-    go true q f g h = le-of-lt (f refl)
-    go false true f g h = g refl
-    go false false f g h = absurd (false≢true h)
 
 modest-at : (m : ℕ) (e : ℤ) → lt nought (fin false m e) ≡ true → m * up e * 1 ≤ 1073741824 * down e → Modest (fin false m e)
 unfolding lt wholeSize

@@ -1,13 +1,118 @@
--- A law of rounding: the rounded float equals the nearest whole number as a float. They differ at most in the sign of a zero. Assumes nothing.
-use mathlib.Core.Path.{_≡_, refl}
-use mathlib.Core.Bool.{Bool, true, false, cond}
-use Prim.Native.Nat.{ℕ, zero, suc, _*_, _^_}
+-- Laws of NaNs, of comparing and of rounding that other crates rest on too. Assumes nothing.
+use mathlib.Core.Path.{_≡_, refl, sym, ap, _∙_, subst}
+use mathlib.Core.Logic.{inl, inr}
+use mathlib.Core.Bool.{Bool, true, false, cond, _&&_, _||_, false≢true}
+use Prim.Native.Nat.{ℕ, zero, suc, _+_, _*_, _/_, _%_, _^_, _≤_, _<_, min}
+use native.Mathlib.Nat.{le-of-lt, eq-or-lt-of-le, mul-assoc, mul-left-comm, mul-pos, suc-mul, div-lt-iff-lt-mul}
+use native.Mathlib.Omega.{arith}
 use lib.IntN.{ℤ, pos, negℤ}
-use lib.Dec.{ltb}
-use borrow.Author.Tests.{eq-eqb}
-use lib.Ieee.{Float, inf, fin, binary64, up, down, odd, units, round, eq, ofInt}
-use lib.Ieee.Fits.{round-is}
+use lib.Dec.{T, leb, ltb, eqb, ltb→lt, lt→ltb, lit<}
+use borrow.Author.Tests.{eq-eqb, ltb-true, lt-ltb}
+use lib.Ieee.{Float, nan, inf, fin, Format, binary64, prec, emax, low, up, down, odd, units, round, fits, toUnsigned, eq, lt, ofInt, ofBits, nanBits, isNan}
+use lib.Ieee.Bits.{nanBits-is}
+use lib.Ieee.Fits.{round-is, down-pos, and-l, and-r}
 use Rattle.float.specs.Round.{wholeOf, roundAway, wholeAway}
+
+-- ---- tests
+
+pub so : {b : Bool} → b ≡ true → T b
+so e = subst T (sym e) tt
+
+-- ---- NaNs
+
+pub is-nan : (x : Float) → isNan x ≡ true → x ≡ nan
+unfolding isNan
+is-nan nan e = refl
+is-nan (inf s) e = cc
+is-nan (fin s m k) e = cc
+
+-- a NaN's pattern has the value `nan`
+pub nan-value : (a : ℕ) → nanBits binary64 a ≡ true → ofBits binary64 a ≡ nan
+nan-value a e = is-nan (ofBits binary64 a) (sym (nanBits-is binary64 a) ∙ e)
+
+-- ---- comparing
+
+-- below, or level
+pub at-most : (a b : ℕ) (q t : Bool) → (q ≡ true → a ≤ b) → (ltb a b || (q && t)) ≡ true → a ≤ b
+at-most a b q t g h = go (ltb a b) q (ltb-true a b) g h
+  where
+    go : (p q : Bool) → (p ≡ true → a < b) → (q ≡ true → a ≤ b) → (p || (q && t)) ≡ true → a ≤ b
+    go true q f g h = le-of-lt (f refl)
+    go false true f g h = g refl
+    go false false f g h = absurd (false≢true h)
+
+-- and the other way
+pub level-or-below : (a b : ℕ) (q : Bool) → (a ≡ b → q ≡ true) → a ≤ b → (ltb a b || (q && true)) ≡ true
+level-or-below a b q g h = elim (eq-or-lt-of-le h) [ inl p ↦ go (ltb a b) q (g p) | inr l ↦ ap (λ (t : Bool). t || (q && true)) (lt-ltb a b l) ]
+  where
+    go : (p q : Bool) → q ≡ true → (p || (q && true)) ≡ true
+    go true q h = refl
+    go false true h = refl
+    go false false h = h
+
+-- ---- sizes
+
+-- a number of the format has at most 53 digits
+pub digits-of : (s : Bool) (m : ℕ) (e : ℤ) → T (fits binary64 (fin s m e)) → m < 9007199254740992
+unfolding fits
+digits-of s zero e t = lit< tt
+digits-of s (suc m) e t =
+    ltb→lt (suc m) 9007199254740992 (and-r (eqb (suc m % 2) 1) (ltb (suc m) 9007199254740992) (and-l (eqb (suc m % 2) 1 && ltb (suc m) 9007199254740992) (leb (down e) (2 ^ 1074))
+    (and-l (eqb (suc m % 2) 1 && ltb (suc m) 9007199254740992 && leb (down e) (2 ^ 1074)) (ltb (suc m * up e) (2 ^ 1024 * down e)) t)))
+
+-- the nearest whole number to a number up to c is up to c
+pub size-within : (m : ℕ) (e : ℤ) (c : ℕ) → m * up e ≤ c * down e → wholeOf m e ≤ c
+size-within m e c h = less (wholeOf m e) c (div-lt-iff-lt-mul (mul-pos (lit< tt) (down-pos e)) .1 (under (down-pos e) h))
+  where
+    under : 0 < down e → m * up e ≤ c * down e → 2 * m * up e + down e < suc c * (2 * down e)
+    under p h =
+        let a = mul-assoc 2 m (up e) in
+        let b = suc-mul c (2 * down e) in
+        let d = mul-left-comm c 2 (down e) in
+        omega arith
+
+    less : (a c : ℕ) → a < suc c → a ≤ c
+    less a c h = omega arith
+
+-- ---- a cast to an unsigned integer
+
+-- it asks for more than -1, which a number from zero on is
+pub above-minus-one : (m : ℕ) (e : ℤ) → T (lt (fin true 1 (pos 0)) (fin false m e))
+unfolding lt
+above-minus-one m e = lt→ltb 0 (1 * down e + m * up e * 1) (more (down e) (m * up e * 1) (down-pos e))
+  where
+    more : (d b : ℕ) → 0 < d → 0 < 1 * d + b
+    more d b h = omega arith
+
+-- and gives the whole part, where 64 bits hold it
+pub cut-is : (m : ℕ) (e : ℤ) → m * up e / down e < 18446744073709551616 → toUnsigned 64 (fin false m e) ≡ m * up e / down e
+unfolding toUnsigned
+cut-is m e h = uncapped (m * up e / down e) h
+  where
+    uncapped : (a : ℕ) → a < 18446744073709551616 → min a 18446744073709551615 ≡ a
+    uncapped a h = omega arith
+
+-- ---- a rounding is a number or infinite
+
+module _ (P : Float → Type 0) (finite : (s : Bool) (m : ℕ) (e : ℤ) → P (fin s m e)) (infinite : (s : Bool) → P (inf s)) where
+  either : (b : Bool) (x y : Float) → P x → P y → P (cond b x y)
+  either true x y h k = h
+  either false x y h k = k
+
+  at-odd : (d : ℕ) (s : Bool) (q k l : ℕ) → P (odd d s q k l)
+  unfolding odd
+  at-odd d s zero k l = finite s 0 (pos 0)
+  at-odd d s (suc q) k l = finite s _ _
+
+  at-units : (f : Format) (s : Bool) (q k : ℕ) → P (units f s q k)
+  unfolding units
+  at-units f s q k = either (ltb (q * 2 ^ k) (2 ^ (low f + suc (emax f)))) (odd (suc (prec f)) s q k (low f)) (inf s) (at-odd (suc (prec f)) s q k (low f)) (infinite s)
+
+  -- so what holds of every number and of both infinities holds of it
+  pub rounded : (f : Format) (s : Bool) (a b : ℕ) → P (round f s a b)
+  rounded f s a b = rw (round-is f s a b) (at-units f s _ _)
+
+-- ---- the rounded float equals the nearest whole number as a float: they differ at most in the sign of a zero
 
 -- what is a number equals itself
 abbrev Same : Float → Type 0
@@ -23,21 +128,8 @@ unfolding eq
 infinite-same true = refl
 infinite-same false = refl
 
-odd-same : (d : ℕ) (s : Bool) (q k l : ℕ) → Same (odd d s q k l)
-unfolding odd
-odd-same d s zero k l = finite-same s 0 (pos 0)
-odd-same d s (suc q) k l = finite-same s _ _
-
-either : (b : Bool) (x y : Float) → Same x → Same y → Same (cond b x y)
-either true x y h k = h
-either false x y h k = k
-
-units-same : (s : Bool) (q k : ℕ) → Same (units binary64 s q k)
-unfolding units
-units-same s q k = either (ltb (q * 2 ^ k) (2 ^ 2098)) (odd 54 s q k 1074) (inf s) (odd-same 54 s q k 1074) (infinite-same s)
-
 round-same : (s : Bool) (n : ℕ) → Same (round binary64 s n 1)
-round-same s n = rw (round-is binary64 s n 1) (units-same s _ _)
+round-same s n = rounded Same finite-same infinite-same binary64 s n 1
 
 positive : (n : ℕ) → eq (round binary64 false n 1) (ofInt binary64 (pos n)) ≡ true
 unfolding ofInt

@@ -12,9 +12,9 @@ use Rattle.lattice.specs.declared.ParityAnswer.{ParityAnswer}
 use Rattle.lattice.specs.declared.ParityAnswer.the-variants.{Is, Refused}
 
 -- not refused
-pub known : (a : ParityAnswer) → OneOf (0 ∷ []) (tagOf the-type a) → (p : Parity) × (a ≡ Is p)
-known (Is p) h = (p, refl)
-known (Refused r) h = absurd (omega (arith, h))
+pub answered : (a : ParityAnswer) → OneOf (0 ∷ []) (tagOf the-type a) → (p : Parity) × (a ≡ Is p)
+answered (Is p) h = (p, refl)
+answered (Refused r) h = absurd (omega (arith, h))
 
 pub even : (p : Parity) → OneOf (0 ∷ []) (tagOf parity.the-type p) → p ≡ Even
 even Even h = refl

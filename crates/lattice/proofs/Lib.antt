@@ -1,5 +1,4 @@
 pub mod Signs
-pub mod Fields
 pub mod Room
 pub mod Answers
 pub mod Points

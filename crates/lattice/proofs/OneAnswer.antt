@@ -1,11 +1,6 @@
--- Two answers that meet a public function's contract agree. `Post` is what Rattle made of the source's `ensures`, so these theorems speak of the contract itself.
--- Assumes nothing.
-use mathlib.Core.Path.{_≡_, sym, _∙_}
-use mathlib.Core.List.{List}
-use Prim.Native.Nat.{ℕ}
-use contract.Lifetimes.{Lfts}
-use denote.Triple.Clauses.{AtExit}
-use borrow.Fn.Kinds.{PK, RK, Out, Dens, resT, endedOf}
+-- Two answers that meet a public function's contract agree. Assumes nothing.
+use mathlib.Core.Path.{sym, _∙_}
+use Rattle.refusal.specs.OneAnswer.{OneAnswer}
 use Rattle.lattice.proofs.opposite.Kinds as opposite-kinds
 use Rattle.lattice.proofs.opposite.Reads as opposite
 use Rattle.lattice.proofs.is_valid_lattice_point.Kinds as is-valid-lattice-point-kinds
@@ -28,11 +23,6 @@ use Rattle.lattice.proofs.get_parent.Kinds as get-parent-kinds
 use Rattle.lattice.proofs.get_parent.Reads as get-parent
 use Rattle.lattice.proofs.manhattan_distance_to.Kinds as manhattan-distance-to-kinds
 use Rattle.lattice.proofs.manhattan_distance_to.Reads as manhattan-distance-to
-
--- the arguments decide the answer
-abbrev pub OneAnswer : (n : ℕ) (ps : List (PK n)) (r : RK n) → Out n ps r → Type 0
-OneAnswer n ps r Post =
-    (κs : Lfts n) (a : Dens κs ps) (z z′ : resT r κs .Denot) (e e′ : AtExit (endedOf n ps r) κs) → Post κs a z e → Post κs a z′ e′ → z ≡ z′
 
 pub opposite-one : OneAnswer 0 opposite-kinds.ps opposite-kinds.r opposite.Post
 opposite-one κs a z z′ e e′ p q = p ∙ sym q

@@ -9,8 +9,7 @@ use Rattle.refusal.specs.declared.Outcome.the-variants.{Answered, Refused}
 use Rattle.lattice.specs.declared.ParityAnswer.the-variants as parity
 use Rattle.lattice.specs.declared.CoordAnswer.the-variants.{At}
 use Rattle.lattice.specs.declared.NumberAnswer.the-variants as number
-use Rattle.lattice.specs.Lattice.{at, isLatticePoint, parityOf, hasNeighborRoom, around, neighborSteps, neighborsOf, hasChildRoom, below, childSteps, childrenOf, parentOf, manhattan, manhattanOf}
-use Rattle.lattice.proofs.Room.{origin}
+use Rattle.lattice.specs.Lattice.{at, origin, isLatticePoint, parityOf, hasNeighborRoom, around, neighborSteps, neighborsOf, hasChildRoom, below, childSteps, childrenOf, parentOf, manhattan, manhattanOf}
 
 -- (0, 1, 0) is mixed
 pub mixed : parityOf (at (pos 0) (pos 1) (pos 0)) ≡ parity.Refused (InvalidParity (at (pos 0) (pos 1) (pos 0)))

@@ -1,4 +1,4 @@
--- Which coordinates 32 bits hold, and lemmas that sums, doubles and halves stay among them. Assumes nothing.
+-- Lemmas that sums, doubles and halves of coordinates stay among those that 32 bits hold. Assumes nothing.
 use mathlib.Core.Path.{_≡_}
 use mathlib.Core.Bool.{Bool, true, false, not, cond, _&&_, Bool·beq}
 use Prim.Native.Nat.{ℕ, _+_, _^_, _<_}
@@ -11,15 +11,9 @@ use borrow.Author.Tests.{leb-true}
 use Rattle.refusal.specs.declared.Coord.{Coord}
 use Rattle.lattice.specs.declared.Parity.{Parity}
 use Rattle.lattice.specs.declared.Parity.the-variants.{Even, Odd}
-use Rattle.lattice.specs.Lattice.{isOdd, moved, doubled, within, hasNeighborRoom, hasChildRoom, half, alone, halves}
+use Rattle.lattice.specs.Lattice.{Fitting, isOdd, moved, doubled, within, hasNeighborRoom, hasChildRoom, half, alone, halves}
 use Rattle.lattice.specs.Signs.{both, three, mag-add, rise, fall, within-mag, double-mag, mag-half}
 use Rattle.lattice.specs.Odds.{parent-from, parent-of-halves}
-
--- each coordinate is a 32-bit number
-pub record Fitting (c : Coord) : Type 0 where
-  pub in-x : SFits w32 (c .x)
-  pub in-y : SFits w32 (c .y)
-  pub in-z : SFits w32 (c .z)
 
 -- ---- neighbours
 

@@ -12,7 +12,6 @@ use mir.Val.{SFits}
 use Rattle.refusal.specs.declared.Coord.{Coord}
 use Rattle.refusal.specs.declared.Refusal.{Refusal}
 use Rattle.refusal.specs.declared.Refusal.the-variants.{InvalidParity, CoordOverflow}
-use Rattle.refusal.specs.declared.Outcome.{Outcome}
 use Rattle.refusal.specs.declared.Outcome.the-variants as outcome
 use Rattle.lattice.specs.declared.Parity.{Parity}
 use Rattle.lattice.specs.declared.Parity.the-variants.{Even, Odd}
@@ -28,8 +27,11 @@ use Rattle.lattice.specs.declared.Children.{Children}
 abbrev pub at : ℤ → ℤ → ℤ → Coord
 at x y z = record { x = x; y = y; z = z }
 
+abbrev pub origin : Coord
+origin = at (pos 0) (pos 0) (pos 0)
+
 -- each coordinate fits 32 bits
-pub record Fit (c : Coord) : Type 0 where
+pub record Fitting (c : Coord) : Type 0 where
   pub in-x : SFits w32 (c .x)
   pub in-y : SFits w32 (c .y)
   pub in-z : SFits w32 (c .z)
@@ -83,7 +85,7 @@ hasNeighborRoom c =
 
 -- refused: no coordinate is handed over
 abbrev pub noNeighbors : Refusal → Neighbors
-noNeighbors r = record { outcome = outcome.Refused r; coords = replicate 14 (at (pos 0) (pos 0) (pos 0)) }
+noNeighbors r = record { outcome = outcome.Refused r; coords = replicate 14 origin }
 
 abbrev pub neighborsIn : Bool → Coord → Neighbors
 neighborsIn true c = record { outcome = outcome.Answered; coords = around c }
@@ -122,7 +124,7 @@ hasChildRoom c =
     within (negsuc 1073741823) high (c .x) && (within (negsuc 1073741822) high (c .y) && within (negsuc 1073741822) high (c .z))
 
 abbrev pub noChildren : Refusal → Children
-noChildren r = record { outcome = outcome.Refused r; coords = replicate 8 (at (pos 0) (pos 0) (pos 0)) }
+noChildren r = record { outcome = outcome.Refused r; coords = replicate 8 origin }
 
 abbrev pub childrenIn : Bool → Coord → Children
 childrenIn true c = record { outcome = outcome.Answered; coords = below c }

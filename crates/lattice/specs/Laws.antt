@@ -7,12 +7,12 @@ use Rattle.lattice.specs.declared.Parity.{Parity}
 use Rattle.lattice.specs.declared.Parity.the-variants.{Even, Odd}
 use Rattle.lattice.specs.declared.ParityAnswer.the-variants as parity
 use Rattle.lattice.specs.declared.CoordAnswer.the-variants as coord
-use Rattle.lattice.specs.Lattice.{isOdd, isLatticePoint, parityOf, moved, around, neighborSteps, hasNeighborRoom, hasChildRoom, doubled, below, childSteps, halves, parentOf, manhattan}
+use Rattle.lattice.specs.Lattice.{Fitting, isOdd, isLatticePoint, parityOf, moved, around, neighborSteps, hasNeighborRoom, hasChildRoom, doubled, below, childSteps, halves, parentOf, manhattan}
 use Rattle.lattice.specs.Middle.{middle}
 use Rattle.lattice.specs.Signs.{either}
 use Rattle.lattice.specs.Tables.{at-member, at-image, by-test}
 use Rattle.lattice.specs.Odds.{oddness, answer, answered, same-parity, point-odds, parity-odds, moved-odds, child-odds, back, ways-back, there-and-back, child-home, parent-cases, parent-point, middle-mixed}
-use Rattle.lattice.specs.Fitting.{Fitting, short, childlike, moved-fits, doubled-fits, halves-fit}
+use Rattle.lattice.specs.Fitting.{short, childlike, moved-fits, doubled-fits, halves-fit}
 
 -- ---- lattice points
 

@@ -16,7 +16,7 @@ use Rattle.lattice.specs.declared.Parity.the-variants.{Even, Odd}
 use Rattle.lattice.specs.declared.ParityAnswer.{ParityAnswer}
 use Rattle.lattice.specs.declared.ParityAnswer.the-variants as parity
 use Rattle.lattice.specs.declared.CoordAnswer.the-variants as coord
-use Rattle.lattice.specs.Lattice.{at, isOdd, isLatticePoint, parityOf, moved, neighborSteps, doubled, childSteps, half, lowered, raised, alone, halves, parentBy, parentOf, apart, manhattan}
+use Rattle.lattice.specs.Lattice.{at, origin, isOdd, isLatticePoint, parityOf, moved, neighborSteps, doubled, childSteps, half, lowered, raised, alone, halves, parentBy, parentOf, apart, manhattan}
 use Rattle.lattice.specs.Signs.{either, either-false, agree-turned, odd-sum, odd-double, half-double, apart-even, odd-halfway}
 use Rattle.lattice.specs.Middle.{middle}
 use Rattle.lattice.specs.Tables.{Each, has, placed}
@@ -108,8 +108,8 @@ child-odds c s o =
 abbrev pub back : Coord → Coord
 back s = at (negℤ (s .x)) (negℤ (s .y)) (negℤ (s .z))
 
-entry : (k : ℕ) → T (has neighborSteps k) → List·Memᴰ (getD neighborSteps k (at (pos 0) (pos 0) (pos 0))) neighborSteps
-entry k = placed neighborSteps k (at (pos 0) (pos 0) (pos 0))
+entry : (k : ℕ) → T (has neighborSteps k) → List·Memᴰ (getD neighborSteps k origin) neighborSteps
+entry k = placed neighborSteps k origin
 
 -- the table of neighbours has each step's way back
 pub ways-back : Each (λ (s : Coord). List·Memᴰ (back s) neighborSteps) neighborSteps

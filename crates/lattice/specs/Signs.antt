@@ -1,6 +1,6 @@
 -- Laws of tests and of signed numbers that the lattice's laws rest on: the parity of a sum and the half of a double. Assumes nothing.
 use mathlib.Core.Path.{_≡_, refl, sym, ap, ap₂, _∙_}
-use mathlib.Core.Bool.{Bool, true, false, not, cond, _&&_, Bool·beq, false≢true}
+use mathlib.Core.Bool.{Bool, true, false, not, cond, _&&_, Bool·beq, and-eq-true-iff}
 use Prim.Native.Nat.{ℕ, zero, suc, _+_, _-_, _/_, _%_, _≤_, _<_}
 use native.Mathlib.Nat.{mod-lt}
 use native.Mathlib.Omega.{arith}
@@ -11,9 +11,9 @@ use borrow.Author.Tests.{ltb-true, ltb-false, leb-true, lt-ltb, le-ltb}
 use Rattle.lattice.specs.Middle.{halfway}
 use Rattle.lattice.specs.Lattice.{isOdd, within, half, apart}
 
+-- tests that all passed
 pub both : (a b : Bool) → (a && b) ≡ true → (a ≡ true) × (b ≡ true)
-both true b e = (refl, e)
-both false b e = absurd (false≢true e)
+both a b e = and-eq-true-iff a b .0 e
 
 pub three : (a b d : Bool) → (a && (b && d)) ≡ true → (a ≡ true) × (b ≡ true) × (d ≡ true)
 three a b d e = let h = both a (b && d) e in let g = both b d (h .1) in (h .0, g .0, g .1)

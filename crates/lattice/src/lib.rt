@@ -5,7 +5,7 @@ ghost use Prim.Native.Nat.{_<_, _^_};
 ghost use lib.IntN.{natAbs, _-ℤ_};
 ghost use mir.Syntax.{w32};
 ghost use mir.Val.{SFits};
-ghost use Rattle.lattice.specs.Lattice.{isOdd, isLatticePoint, parityOf, oppositeOf, Fit, at, moved, doubled, within, hasNeighborRoom, around, noNeighbors, neighborsOf, hasChildRoom, below, noChildren, childrenOf, half, halves, lowered, raised, alone, evenParent, oddParent, parentOf, apart, manhattan, manhattanOf};
+ghost use Rattle.lattice.specs.Lattice.{isOdd, isLatticePoint, parityOf, oppositeOf, Fitting, at, moved, doubled, within, hasNeighborRoom, around, noNeighbors, neighborsOf, hasChildRoom, below, noChildren, childrenOf, half, halves, lowered, raised, alone, evenParent, oddParent, parentOf, apart, manhattan, manhattanOf};
 use refusal::Coord;
 use refusal::Outcome;
 use refusal::Refusal;
@@ -135,7 +135,7 @@ pub fn has_child_room(c: Coord) -> bool
 
 // The place that many steps away along each axis.
 fn moved(c: Coord, x: i32, y: i32, z: i32) -> Coord
-    requires { ⌜ Fit (moved c (at x y z)) ⌝ }
+    requires { ⌜ Fitting (moved c (at x y z)) ⌝ }
     ensures { λ r. ⌜ r ≡ moved c (at x y z) ⌝ }
 {
     Coord {
@@ -147,7 +147,7 @@ fn moved(c: Coord, x: i32, y: i32, z: i32) -> Coord
 
 // The place that is the first child, from which the others are reckoned.
 fn doubled(c: Coord) -> Coord
-    requires { ⌜ Fit (doubled c) ⌝ }
+    requires { ⌜ Fitting (doubled c) ⌝ }
     ensures { λ r. ⌜ r ≡ doubled c ⌝ }
 {
     Coord {

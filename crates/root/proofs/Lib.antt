@@ -4,3 +4,4 @@ pub mod Whole
 pub mod Steps
 pub mod Answer
 pub mod Points
+pub mod OneAnswer

@@ -8,7 +8,7 @@ use lib.Dec.{lit≤}
 use lib.Pow.{pow-add, pow-pos, pow-mono, shl-lt}
 use lib.Count.{leadingZeros, leading-top}
 use Rattle.root.specs.Root.{isqrt}
-use Rattle.root.specs.Isqrt.{IsRoot, sq-suc, root-le, isqrt-is, sq-lt-of}
+use Rattle.root.specs.Isqrt.{IsRoot, sq-suc, root-le, isqrt-is, sq-mul, sq-lt-of}
 use Rattle.root.proofs.Scaled.{Scaled}
 
 -- ---- the guess mended
@@ -47,9 +47,6 @@ sum-square a t =
     let z = mul-add t a t in
     let w = mul-comm t a in
     omega arith
-
-scaled-square : (p K : ℕ) → p * K * (p * K) ≡ p * p * (K * K)
-scaled-square p K = mul-mul-mul-comm p K p K
 
 -- what the two products with p come to
 cross-one : (p t : ℕ) → t * (p * 2) ≡ 2 * (p * t)
@@ -92,7 +89,7 @@ fine m p l h r =
 
 module _ {m p t u : ℕ} (f : Fine m p t u) where
   squares : (p * 4194304 + t) * (p * 4194304 + t) ≡ p * p * 17592186044416 + 8388608 * (p * t) + t * t
-  squares = let e = sum-square (p * 4194304) t in let g = scaled-square p 4194304 in let h = cross-two p t in omega arith
+  squares = let e = sum-square (p * 4194304) t in let g = sq-mul p 4194304 in let h = cross-two p t in omega arith
 
   whole : m * 17592186044416 ≡ p * p * 17592186044416 + 8388608 * (p * t) + u * 4194304
   whole = let e = cross-one p t in omega (arith, f .sum, f .root .low)
@@ -124,8 +121,8 @@ module _ (n q d : ℕ) (j : ℕ) (power : d ≡ 2 ^ j) (first : 1 ≤ n) (r : Is
         j = j;
         power = power;
         root = r;
-        above = root-le (n * (d * d)) (p * d) q (le-trans (le-of-eq (scaled-square p d)) (mul-le-mul-right (d * d) (i .low))) (r .high);
-        below = sq-lt-of q (suc p * d) (lt-of-le-of-lt (r .low) (lt-of-lt-of-le (mul-lt-mul-of-pos-right (i .high) (mul-pos d-pos d-pos)) (le-of-eq (sym (scaled-square (suc p) d)))));
+        above = root-le (n * (d * d)) (p * d) q (le-trans (le-of-eq (sq-mul p d)) (mul-le-mul-right (d * d) (i .low))) (r .high);
+        below = sq-lt-of q (suc p * d) (lt-of-le-of-lt (r .low) (lt-of-lt-of-le (mul-lt-mul-of-pos-right (i .high) (mul-pos d-pos d-pos)) (le-of-eq (sym (sq-mul (suc p) d)))));
         positive = root-le n 1 p first (i .high);
         top = top;
       }

@@ -1,20 +1,23 @@
 -- What the tests of `square_root` say of x, and what `rootOf` is there. `one`, `big` and `nought` are the constants 1, 2 ^ 64 and +0. Assumes nothing.
 use mathlib.Core.Path.{_≡_, refl, sym, ap, _∙_, subst}
-use Prim.Native.Nat.{ℕ, suc, _+_, _*_, _/_, _%_, _^_, _≤_, _<_, min}
+use Prim.Native.Nat.{ℕ, suc, _*_, _/_, _%_, _^_, _≤_, _<_}
 use native.Mathlib.Nat.{mul-one, one-mul, zero-mul, mod-one, mod-eq-of-lt, div-add-mod', le-of-eq, lt-of-le-of-lt, le-of-lt, not-le-of-lt, le-div-iff-mul-le, div-lt-iff-lt-mul, mul-le-mul-right, div-le-self, mul-right-comm, le-antisymm, le-of-mul-le-mul-right}
 use native.Mathlib.Omega.{arith}
-use mathlib.Core.Bool.{Bool, true, false, not, _&&_, _||_, true≢false, false≢true}
+use mathlib.Core.Bool.{Bool, true, false, not, _&&_, _||_, true≢false, false≢true, and-true}
 use lib.IntN.{ℤ, pos, negsuc}
-use lib.Dec.{T, leb, ltb, eqb, leb→le, le→leb, ltb→lt, lt→ltb, eqb→eq, nleb→lt, nltb→le}
+use lib.Dec.{T, leb, ltb, eqb, leb→le, le→leb, ltb→lt, eqb→eq, nleb→lt, nltb→le}
 use lib.Ieee.{Float, nan, inf, fin, binary64, up, down, round, eq, lt, le, fits, toUnsigned, toBits, isNan, ofInt}
-use lib.Ieee.Fits.{down-pos, and-i, and-l, and-r, eq→eqb}
+use lib.Ieee.Fits.{down-pos, and-l, and-r, eq→eqb}
 use lib.Ieee.Exact.{HasValue}
 use lib.Ieee.Back.{whole-unique, round-whole}
+use lib.Ieee.Bits.{is-true}
+use borrow.Author.Tests.{eqb-true, eq-eqb}
 use Rattle.refusal.specs.declared.Refusal.the-variants.{OutOfRange}
+use Rattle.float.specs.Laws as laws
+use Rattle.float.specs.Laws.{so, at-most, level-or-below, digits-of, cut-is}
 use Rattle.root.specs.declared.Root.the-variants.{Of, Refused}
 use Rattle.root.specs.Root.{rootOf, rootWhole}
 use Rattle.root.specs.Answers.{in-range, out-of-range}
-use Rattle.root.specs.Halfway.{digits-of}
 
 abbrev pub one : Float
 one = fin false 1 (pos 0)
@@ -32,42 +35,15 @@ same true false f g = absurd (f tt)
 same false true f g = absurd (g tt)
 same false false f g = refl
 
-pub so : {b : Bool} → b ≡ true → T b
-so e = subst T (sym e) tt
-
 pub no : {b : Bool} → b ≡ false → T b → ⊥
 no e t = subst T e t
 
-or-split : (a b : Bool) (C : Type 0) → (T a → C) → (T b → C) → T (a || b) → C
-or-split true b C f g t = f tt
-or-split false b C f g t = g t
-
-or-l : (a b : Bool) → T a → T (a || b)
-or-l true b t = tt
-
-or-r : (a b : Bool) → T b → T (a || b)
-or-r true b t = tt
-or-r false b t = t
-
 -- ---- the four tests of a finite x that is not negative, as tests of the fraction N / D
 at-or-below : (a b : ℕ) → (ltb a b || (eqb a b && true)) ≡ leb a b
-at-or-below a b = same (ltb a b || (eqb a b && true)) (leb a b)
-    (or-split (ltb a b) (eqb a b && true) (T (leb a b)) (λ t. le→leb a b (le-of-lt (ltb→lt a b t))) (λ t. le→leb a b (le-of-eq (eqb→eq a b (and-l (eqb a b) true t)))))
-    (λ t. either a b (leb→le a b t))
-  where
-    either : (a b : ℕ) → a ≤ b → T (ltb a b || (eqb a b && true))
-    either a b h = go (ltb a b) (nltb→le a b)
-      where
-        go : (t : Bool) → (T (not t) → b ≤ a) → T (t || (eqb a b && true))
-        go true k = tt
-        go false k = let e : a ≡ b = equal h (k tt) in and-i (eqb a b) true (eq→eqb e) tt
-          where
-            equal : a ≤ b → b ≤ a → a ≡ b
-            equal h k = omega arith
-
-and-true : (b : Bool) → (b && true) ≡ b
-and-true true = refl
-and-true false = refl
+at-or-below a b =
+    same (ltb a b || (eqb a b && true)) (leb a b)
+    (λ t. le→leb a b (at-most a b (eqb a b) true (λ q. le-of-eq (eqb-true a b q)) (is-true _ t)))
+    (λ t. so (level-or-below a b (eqb a b) (eq-eqb a b) (leb→le a b t)))
 
 module _ (m : ℕ) (e : ℤ) where
   pub le-one : le one (fin false m e) ≡ leb (down e) (m * up e)
@@ -104,10 +80,7 @@ above-minus-one nan h = absurd (false≢true h)
 above-minus-one (inf true) h = absurd (false≢true h)
 above-minus-one (inf false) h = tt
 above-minus-one (fin true m e) h = absurd (not-negative m e h)
-above-minus-one (fin false m e) h = lt→ltb 0 (1 * down e + m * up e * 1) (pos-of (down e) (m * up e * 1) (down-pos e))
-  where
-    pos-of : (d b : ℕ) → 0 < d → 0 < 1 * d + b
-    pos-of d b h = omega arith
+above-minus-one (fin false m e) h = laws.above-minus-one m e
 
 module _ (m : ℕ) (e : ℤ) (a : le one (fin false m e) ≡ true) (b : lt (fin false m e) big ≡ true) where
   at-least : 1 ≤ m * up e / down e
@@ -117,11 +90,7 @@ module _ (m : ℕ) (e : ℤ) (a : le one (fin false m e) ≡ true) (b : lt (fin 
   less = div-lt-iff-lt-mul (down-pos e) .1 (ltb→lt (m * up e) (18446744073709551616 * down e) (so (sym (lt-big m e) ∙ b)))
 
   cast-is : toUnsigned 64 (fin false m e) ≡ m * up e / down e
-  unfolding toUnsigned
-  cast-is = cap (m * up e / down e) less
-    where
-      cap : (q : ℕ) → q < 18446744073709551616 → min q 18446744073709551615 ≡ q
-      cap q h = omega arith
+  cast-is = cut-is m e less
 
 pub cast-pos : (x : Float) → le one x ≡ true → lt x big ≡ true → 1 ≤ toUnsigned 64 x
 cast-pos nan a b = absurd (false≢true (unfold le in a))

@@ -2,28 +2,22 @@
 -- Of an f64 y above `rootWhole n` the root is below the middle of the two, and of one below it above the middle, each squared. Assumes nothing.
 use mathlib.Core.Path.{_≡_, sym, ap, _∙_, subst}
 use mathlib.Core.Logic.{_⊎_, inl, inr}
-use mathlib.Core.Bool.{Bool, true, false, not, _&&_}
-use Prim.Native.Nat.{ℕ, zero, suc, _+_, _-_, _*_, _%_, _^_, _≤_, _<_}
-use native.Mathlib.Nat.{suc-mul, add-mul, mul-one, mul-assoc, mul-comm, mul-left-comm, mul-right-comm, mul-mul-mul-comm, mul-le-mul-left, mul-le-mul-right, mul-lt-mul-of-pos-right, lt-of-mul-lt-mul-right, mul-pos, le-trans, le-of-eq, lt-of-lt-of-le, lt-of-le-of-lt, eq-or-lt-of-le, pow-suc, sub-add-cancel}
+use mathlib.Core.Bool.{Bool, true, false, not}
+use Prim.Native.Nat.{ℕ, suc, _+_, _-_, _*_, _^_, _≤_, _<_}
+use native.Mathlib.Nat.{suc-mul, add-mul, mul-one, mul-assoc, mul-comm, mul-left-comm, mul-right-comm, mul-le-mul-left, mul-le-mul-right, mul-lt-mul-of-pos-right, lt-of-mul-lt-mul-right, mul-pos, le-trans, le-of-eq, lt-of-lt-of-le, lt-of-le-of-lt, eq-or-lt-of-le, pow-suc, sub-add-cancel}
 use native.Mathlib.Omega.{arith}
 use lib.IntN.{ℤ, pos, negsuc}
-use lib.Dec.{T, leb, ltb, eqb, ltb→lt, leb→le, nleb→lt, lit<}
+use lib.Dec.{T, leb, leb→le, nleb→lt}
 use lib.Pow.{pow-add, pow-pos}
 use lib.Ieee.{fin, binary64, up, down, fits}
-use lib.Ieee.Fits.{and-l, and-r, down-pos}
+use lib.Ieee.Fits.{down-pos}
 use lib.Ieee.Positive.{num, den, den-pos, value→cross}
 use Rattle.root.specs.Root.{shift, signif, rootWhole}
-use Rattle.root.specs.Isqrt.{sq-le, sq-lt}
+use Rattle.float.specs.Laws.{digits-of}
+use Rattle.root.specs.Isqrt.{sq-le, sq-lt, sq-mul}
 use Rattle.root.specs.Significand.{unit, many, over, under, least, value}
 
 -- ---- against any other f64, y = Y / D without its sign
-pub digits-of : (s : Bool) (m : ℕ) (e : ℤ) → T (fits binary64 (fin s m e)) → m < 9007199254740992
-unfolding fits
-digits-of s zero e t = lit< tt
-digits-of s (suc m) e t =
-    ltb→lt (suc m) 9007199254740992 (and-r (eqb (suc m % 2) 1) (ltb (suc m) 9007199254740992) (and-l (eqb (suc m % 2) 1 && ltb (suc m) 9007199254740992) (leb (down e) (2 ^ 1074))
-    (and-l (eqb (suc m % 2) 1 && ltb (suc m) 9007199254740992 && leb (down e) (2 ^ 1074)) (ltb (suc m * up e) (2 ^ 1024 * down e)) t)))
-
 -- D is a divisor of P, or at least twice P, and then y has few digits
 data Apart (m P Y D : ℕ) : Type 0 where
   coarse : (K : ℕ) → Y * P ≡ K * D → Apart m P Y D
@@ -82,9 +76,6 @@ module _ {m M P Y D : ℕ} (small : m < 9007199254740992) (many : 45035996273704
       go (inr l) =
           inl (le-trans (le-of-eq (ap (λ (x : ℕ). x * P) y))
           (le-trans (mul-le-mul-right P (le-trans (enough l) (mul-le-mul-left (M - 1) (two w)))) (le-of-eq (mul-assoc (M - 1) (2 * W) P ∙ ap (λ (x : ℕ). (M - 1) * x) (sym d)))))
-
-sq-mul : (a d : ℕ) → a * d * (a * d) ≡ a * a * (d * d)
-sq-mul a d = mul-mul-mul-comm a d a d
 
 middle-up : (M D s : ℕ) → suc M * D ≤ s → suc (2 * M) * D ≤ M * D + s
 middle-up M D s h = let a = suc-mul (2 * M) D in let b = mul-assoc 2 M D in let c = suc-mul M D in omega arith

@@ -2,7 +2,7 @@
 use mathlib.Core.Path.{_≡_, refl, sym, ap, _∙_}
 use mathlib.Core.Bool.{Bool, true, false, not, cond}
 use Prim.Native.Nat.{ℕ, zero, suc, _+_, _*_, _/_, _^_, _≤_, _<_}
-use native.Mathlib.Nat.{mul-suc, suc-mul, mul-assoc, mul-comm, mul-left-comm, mul-le-mul, le-trans, lt-of-lt-of-le, not-le-of-lt, lt-of-not-le, le-antisymm, le-of-suc-le-suc, pow-suc, pow-le-pow-left}
+use native.Mathlib.Nat.{mul-suc, suc-mul, mul-assoc, mul-comm, mul-left-comm, mul-mul-mul-comm, mul-le-mul, le-trans, lt-of-lt-of-le, not-le-of-lt, lt-of-not-le, le-antisymm, le-of-suc-le-suc, pow-suc, pow-le-pow-left}
 use native.Mathlib.Omega.{arith}
 use lib.Pow.{pow-mono}
 use lib.Dec.{T, leb, leb→le, nleb→lt, lit≤}
@@ -53,6 +53,9 @@ isqrt-unique n q h = root-unique n (isqrt n) q (isqrt-is n) h
 -- ---- squares
 pub sq-le : {a b : ℕ} → a ≤ b → a * a ≤ b * b
 sq-le h = mul-le-mul h h
+
+pub sq-mul : (a d : ℕ) → a * d * (a * d) ≡ a * a * (d * d)
+sq-mul a d = mul-mul-mul-comm a d a d
 
 pub sq-lt-of : (a b : ℕ) → a * a < b * b → a < b
 sq-lt-of a b h = lt-of-not-le (λ (g : b ≤ a). not-le-of-lt h (sq-le g))

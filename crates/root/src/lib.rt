@@ -2,7 +2,6 @@
 // It is worked out in whole numbers: the root of the number at 54 binary digits, one more than an f64 keeps, rounded to 53.
 ghost use mathlib.Core.Path.{_≡_};
 ghost use Prim.Native.Nat.{_≤_, _*_};
-ghost use lib.Ieee.{binary64, nanBits};
 ghost use Rattle.root.specs.Isqrt.{IsRoot};
 ghost use Rattle.root.specs.Root.{rootWhole, rootOf, rootBitsOf};
 use refusal::Refusal;
@@ -111,18 +110,11 @@ pub fn square_root(x: f64) -> Root
     Root::Refused(Refusal::OutOfRange)
 }
 
-// Whether a pattern is a NaN's, of which no f64 may be made.
-fn is_nan(bits: u64) -> bool
-    ensures { λ r. ⌜ r ≡ nanBits binary64 bits ⌝ }
-{
-    9218868437227405312 < bits % 9223372036854775808
-}
-
-// The root by its bits, for every pattern of 64 bits.
+// The root by its bits, for every pattern of 64 bits. Of a NaN's no f64 may be made.
 pub fn square_root_bits(bits: u64) -> RootBits
     ensures { λ r. ⌜ r ≡ rootBitsOf bits ⌝ }
 {
-    if is_nan(bits) {
+    if float::is_nan(bits) {
         return RootBits::Refused(Refusal::OutOfRange);
     }
     match square_root(f64::from_bits(bits)) {

@@ -1,4 +1,4 @@
--- Numbers of 32 bits that are read back from their bits, alone and in a place. Assumes nothing.
+-- The candidates are numbers of 32 bits, which are read back from their bits as they were. Assumes nothing.
 use mathlib.Core.Path.{_≡_, ap, _∙_}
 use Prim.Native.Nat.{ℕ, _≤_}
 use native.Mathlib.Omega.{arith}
@@ -9,14 +9,6 @@ use mathlib.Core.Bool.{true}
 use mir.Syntax.{w32}
 use mir.Val.{SFits, ofZ, toZ}
 use mir.Facts.{toZ-ofZ}
-use denote.Laws.{valss}
-use denote.Struct.Struct.{AreAll}
-use denote.Struct.Declared.{fields}
-use denote.Struct.Laws.{spells}
-use Rattle.refusal.proofs.Coord.{the-type}
-use Rattle.refusal.proofs.Coord.Laws.{the-laws}
-use Rattle.refusal.specs.declared.Coord.{Coord}
-use Rattle.lattice.specs.Lattice.{at}
 use Rattle.snap.specs.Snap.{inRange, evenNear, oddNear}
 use Rattle.snap.specs.Ranges.{Range, even-range, odd-range}
 
@@ -32,15 +24,3 @@ even-fits v h = range-fits 2147483646 2147483646 (lit≤ tt) (lit≤ tt) (evenNe
 
 pub odd-fits : (v : Float) → inRange v ≡ true → SFits w32 (oddNear v)
 odd-fits v h = range-fits 2147483647 2147483647 (lit≤ tt) (lit≤ tt) (oddNear v) (odd-range v h)
-
--- what a read of a field tells of the whole place
-abbrev pub Told : Coord → Type 0
-Told c = AreAll (fields the-type) (the-type .to c) (valss (fields the-type) (spells (the-type .parts) the-laws) (the-type .to c))
-
--- a place as its fields' bits say it is the place
-pub read : (c : Coord) → Told c → at (toZ w32 (ofZ w32 (c .x))) (toZ w32 (ofZ w32 (c .y))) (toZ w32 (ofZ w32 (c .z))) ≡ c
-read c told =
-    let x : SFits w32 (c .x) = record { sfits = told .0 .1 } in
-    let y : SFits w32 (c .y) = record { sfits = told .1 .0 .1 } in
-    let z : SFits w32 (c .z) = record { sfits = told .1 .1 .0 .1 } in
-    (λ i. at (toZ-ofZ x i) (toZ-ofZ y i) (toZ-ofZ z i))

@@ -1,11 +1,6 @@
--- Two answers that meet a public function's contract agree. `Post` is what Rattle made of the source's `ensures`, so these theorems speak of the contract itself.
--- Assumes nothing.
-use mathlib.Core.Path.{_≡_, sym, _∙_}
-use mathlib.Core.List.{List}
-use Prim.Native.Nat.{ℕ}
-use contract.Lifetimes.{Lfts}
-use denote.Triple.Clauses.{AtExit}
-use borrow.Fn.Kinds.{PK, RK, Out, Dens, resT, endedOf}
+-- Two answers that meet a public function's contract agree. Assumes nothing.
+use mathlib.Core.Path.{sym, _∙_}
+use Rattle.refusal.specs.OneAnswer.{OneAnswer}
 use Rattle.snap.proofs.physical_to_lattice.Kinds as physical-to-lattice-kinds
 use Rattle.snap.proofs.physical_to_lattice.Reads as physical-to-lattice
 use Rattle.snap.proofs.to_physical.Kinds as to-physical-kinds
@@ -14,11 +9,6 @@ use Rattle.snap.proofs.snap_bits.Kinds as snap-bits-kinds
 use Rattle.snap.proofs.snap_bits.Reads as snap-bits
 use Rattle.snap.proofs.physical_bits.Kinds as physical-bits-kinds
 use Rattle.snap.proofs.physical_bits.Reads as physical-bits
-
--- the arguments decide the answer
-abbrev pub OneAnswer : (n : ℕ) (ps : List (PK n)) (r : RK n) → Out n ps r → Type 0
-OneAnswer n ps r Post =
-    (κs : Lfts n) (a : Dens κs ps) (z z′ : resT r κs .Denot) (e e′ : AtExit (endedOf n ps r) κs) → Post κs a z e → Post κs a z′ e′ → z ≡ z′
 
 pub physical-to-lattice-one : OneAnswer 0 physical-to-lattice-kinds.ps physical-to-lattice-kinds.r physical-to-lattice.Post
 physical-to-lattice-one κs a z z′ e e′ p q = p ∙ sym q

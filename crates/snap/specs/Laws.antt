@@ -1,15 +1,16 @@
 -- What snap answers is a lattice point, and its coordinates are from -2147483647 to 2147483647. Assumes nothing.
-use mathlib.Core.Path.{_≡_, refl, ap, subst}
+use mathlib.Core.Path.{_≡_, refl, sym, ap, subst, _∙_}
 use mathlib.Core.Bool.{Bool, true, false, cond, _&&_, Bool·beq}
-use Prim.Native.Nat.{ℕ, suc, _+_, _-_, _%_, _≤_}
+use Prim.Native.Nat.{ℕ, _≤_}
 use native.Mathlib.Omega.{arith}
 use lib.Dec.{lit≤}
-use lib.IntN.{ℤ, pos, negsuc, _+ℤ_}
+use lib.IntN.{ℤ, pos, negsuc, _+ℤ_, +ℤ-idr}
 use lib.Ieee.{Float, binary64, div, sub, le}
-use borrow.Author.Tests.{lt-ltb, le-leb, eq-eqb, ne-eqb}
+use borrow.Author.Tests.{le-leb}
 use Rattle.refusal.specs.declared.Coord.{Coord}
 use Rattle.lattice.specs.declared.CoordAnswer.the-variants.{At}
 use Rattle.lattice.specs.Lattice.{isOdd, isLatticePoint, within}
+use Rattle.lattice.specs.Signs.{odd-double}
 use Rattle.float.specs.Round.{wholeAway}
 use Rattle.snap.specs.declared.Point.{Point}
 use Rattle.snap.specs.Snap.{inRange, floatOne, floatTwo, scaled, allInRange, evenNear, oddNear, evenPoint, oddPoint, squaresOff, nearer, snapIn, snapOf}
@@ -43,21 +44,13 @@ of-nearer P p even odd = go (le (squaresOff (evenPoint p) p) (squaresOff (oddPoi
 
 -- ---- the answer is a lattice point
 
-twice-even : (n : ℤ) → isOdd (n +ℤ n) ≡ false
-twice-even (pos a) = ne-eqb ((a + a) % 2) 1 (λ e. omega arith)
-twice-even (negsuc a) = ne-eqb (suc (suc (a + a)) % 2) 1 (λ e. omega arith)
-
-more-odd : (n : ℤ) → isOdd (n +ℤ n +ℤ pos 1) ≡ true
-more-odd (pos a) = eq-eqb ((a + a + 1) % 2) 1 (omega arith)
-more-odd (negsuc a) = rw (lt-ltb 1 (suc (suc (a + a))) (omega arith)) (eq-eqb (suc (suc (suc (a + a)) - 2) % 2) 1 (omega arith))
-
 even-near : (v : Float) → isOdd (evenNear v) ≡ false
 unfolding evenNear
-even-near v = twice-even (wholeAway (div binary64 v floatTwo))
+even-near v = let n = wholeAway (div binary64 v floatTwo) in ap isOdd (sym (+ℤ-idr (n +ℤ n))) ∙ odd-double n (pos 0)
 
 odd-near : (v : Float) → isOdd (oddNear v) ≡ true
 unfolding oddNear
-odd-near v = more-odd (wholeAway (div binary64 (sub binary64 v floatOne) floatTwo))
+odd-near v = odd-double (wholeAway (div binary64 (sub binary64 v floatOne) floatTwo)) (pos 1)
 
 even-valid : (p : Point) → isLatticePoint (evenPoint p) ≡ true
 unfolding isLatticePoint

@@ -1,9 +1,8 @@
 -- From a coordinate in range to its candidates: how far from zero a float is, and that halving, taking one away and rounding keep it there. Assumes nothing.
 use mathlib.Core.Path.{_≡_, refl, sym, ap, _∙_, subst}
-use mathlib.Core.Bool.{Bool, true, false, cond, _&&_, _||_, true≢false, false≢true}
-use mathlib.Core.Logic.{inl, inr}
+use mathlib.Core.Bool.{Bool, true, false, cond, true≢false, false≢true}
 use Prim.Native.Nat.{ℕ, zero, suc, _+_, _-_, _*_, _^_, _≤_, _<_, zero-le}
-use native.Mathlib.Nat.{le-of-eq, le-of-lt, mul-one, add-mul, eq-or-lt-of-le, mul-assoc, mul-left-comm, mul-right-comm, le-of-mul-le-mul-right, mul-le-mul-right, le-trans, mul-pos, suc-mul, div-lt-iff-lt-mul}
+use native.Mathlib.Nat.{le-of-eq, mul-one, add-mul, mul-left-comm, mul-right-comm, le-of-mul-le-mul-right, mul-le-mul-right, le-trans, mul-pos}
 use native.Mathlib.Omega.{arith}
 use lib.Dec.{ltb, eqb, lit<, lit≤}
 use lib.IntN.{ℤ, pos, negsuc, negℤ, _+ℤ_}
@@ -13,8 +12,10 @@ use lib.Ieee.Exact.{HasValue}
 use lib.Ieee.Back.{round-whole}
 use lib.Ieee.Bits.{is-true}
 use lib.Ieee.Order.{round-mono}
-use borrow.Author.Tests.{ltb-true, eqb-true, lt-ltb, eq-eqb}
+use borrow.Author.Tests.{eqb-true, lt-ltb, eq-eqb}
 use Rattle.float.specs.Round.{wholeOf, wholeAway}
+use Rattle.float.specs.Laws.{at-most, level-or-below, size-within}
+use Rattle.lattice.specs.Signs.{both, three}
 use Rattle.snap.specs.declared.Point.{Point}
 use Rattle.snap.specs.Snap.{inRange, allInRange, floatOne, floatTwo, evenNear, oddNear}
 
@@ -23,15 +24,6 @@ abbrev pub Between : ℕ → ℕ → Float → Type 0
 Between low high nan = ⊥
 Between low high (inf s) = ⊥
 Between low high (fin s m e) = m * up e ≤ cond s low high * down e
-
--- below, or level
-at-most : (a b : ℕ) (q t : Bool) → (q ≡ true → a ≤ b) → (ltb a b || (q && t)) ≡ true → a ≤ b
-at-most a b q t g h = go (ltb a b) q (ltb-true a b) g h
-  where
-    go : (p q : Bool) → (p ≡ true → a < b) → (q ≡ true → a ≤ b) → (p || (q && t)) ≡ true → a ≤ b
-    go true q f g h = le-of-lt (f refl)
-    go false true f g h = g refl
-    go false false f g h = absurd (false≢true h)
 
 -- ---- rounding
 -- a number that is at most a whole one
@@ -77,10 +69,6 @@ module _ (low high : ℕ) (s : Bool) where
       (units-between _ _ y (round-whole binary64 false b small) (subst (λ (x : Float). le x y ≡ true) (round-is binary64 false a c) l))
 
 -- ---- a coordinate in range
-both : (a b : Bool) → (a && b) ≡ true → (a ≡ true) × (b ≡ true)
-both true b h = (refl, h)
-both false b h = absurd (false≢true h)
-
 range-sides : (v : Float) → le (fin true 1073741823 (pos 1)) v ≡ true → le v (fin false 1073741823 (pos 1)) ≡ true → Between 2147483646 2147483646 v
 unfolding le
 range-sides nan a b = absurd (false≢true b)
@@ -161,14 +149,6 @@ odd-halved v h = halved 2147483647 2147483645 1073741824 1073741823 (λ s. go s)
     go false = record { twice = lit≤ tt; small = lit≤ tt }
 
 -- ---- what `nearest_whole` asks: from -2^30 to 2^30
-level-or-below : (a b : ℕ) (q : Bool) → (a ≡ b → q ≡ true) → a ≤ b → (ltb a b || (q && true)) ≡ true
-level-or-below a b q g h = elim (eq-or-lt-of-le h) [ inl p ↦ go (ltb a b) q (g p) | inr l ↦ ap (λ (t : Bool). t || (q && true)) (lt-ltb a b l) ]
-  where
-    go : (p q : Bool) → q ≡ true → (p || (q && true)) ≡ true
-    go true q h = refl
-    go false true h = refl
-    go false false h = h
-
 pub record Near (x : Float) : Type 0 where
   pub low : le (fin true 1 (pos 30)) x ≡ true
   pub high : le x (fin false 1 (pos 30)) ≡ true
@@ -204,19 +184,6 @@ near low high l k (fin false m e) h =
 abbrev pub Range : ℕ → ℕ → ℤ → Type 0
 Range low high (pos n) = n ≤ high
 Range low high (negsuc n) = suc n ≤ low
-
-size-within : (m : ℕ) (e : ℤ) (c : ℕ) → m * up e ≤ c * down e → wholeOf m e ≤ c
-size-within m e c h = less (wholeOf m e) c (div-lt-iff-lt-mul (mul-pos (lit< tt) (down-pos e)) .1 (under (down-pos e) h))
-  where
-    under : 0 < down e → m * up e ≤ c * down e → 2 * m * up e + down e < suc c * (2 * down e)
-    under p h =
-        let a = mul-assoc 2 m (up e) in
-        let b = suc-mul c (2 * down e) in
-        let d = mul-left-comm c 2 (down e) in
-        omega arith
-
-    less : (a c : ℕ) → a < suc c → a ≤ c
-    less a c h = omega arith
 
 minus-range : (low high n : ℕ) → n ≤ low → Range low high (negℤ (pos n))
 minus-range low high zero h = zero-le
@@ -267,6 +234,5 @@ pub record Within (p : Point) : Type 0 where
 pub all-within : (p : Point) → allInRange p ≡ true → Within p
 unfolding allInRange
 all-within p h =
-    let a = both (inRange (p .x)) (inRange (p .y) && inRange (p .z)) h in
-    let b = both (inRange (p .y)) (inRange (p .z)) (a .1) in
-    record { in-x = a .0; in-y = b .0; in-z = b .1 }
+    let each = three (inRange (p .x)) (inRange (p .y)) (inRange (p .z)) h in
+    record { in-x = each .0; in-y = each .1; in-z = each .2 }

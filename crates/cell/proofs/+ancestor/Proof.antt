@@ -30,80 +30,35 @@ abbrev ancestor-below : ℕ → In 0 ancestor-kinds.ps
 ancestor-below t =
     and 0 ancestor-kinds.ps (falls 0 ancestor-kinds.ps _<_ μ-ancestor t) ancestor.Pre
 
-ancestor-resolution-requires : (t : ℕ) → ancestor-lts.Need-resolution-requires (
-  resolution-reads.Asked,
-  resolution-reads.Learnt,
-  parent-reads.Asked,
-  parent-reads.Learnt,
-  ancestor-below t,
-  ancestor.Post,
-) (ancestor-at t) ancestor.Post
+-- what the calls ask and tell, the call of itself with the measure below t
+abbrev ancestor-claims : ℕ → ancestor-lts.Claims
+ancestor-claims t = (resolution-reads.Asked, resolution-reads.Learnt, parent-reads.Asked, parent-reads.Learnt, ancestor-below t, ancestor.Post)
+
+ancestor-resolution-requires : (t : ℕ) → ancestor-lts.Need-resolution-requires (ancestor-claims t) (ancestor-at t) ancestor.Post
 ancestor-resolution-requires t c κs = search needs
 
-ancestor-returns : (t : ℕ) → ancestor-lts.Need-returns (
-  resolution-reads.Asked,
-  resolution-reads.Learnt,
-  parent-reads.Asked,
-  parent-reads.Learnt,
-  ancestor-below t,
-  ancestor.Post,
-) (ancestor-at t) ancestor.Post
+ancestor-returns : (t : ℕ) → ancestor-lts.Need-returns (ancestor-claims t) (ancestor-at t) ancestor.Post
 ancestor-returns t c =
     let s = c .before .before .args in
     let l = c .before .resolution .ensures in
     sym (ancestor-finer (s .c) (s .target) (omega arith))
 
-ancestor-returns-2 : (t : ℕ) → ancestor-lts.Need-returns-2 (
-  resolution-reads.Asked,
-  resolution-reads.Learnt,
-  parent-reads.Asked,
-  parent-reads.Learnt,
-  ancestor-below t,
-  ancestor.Post,
-) (ancestor-at t) ancestor.Post
+ancestor-returns-2 : (t : ℕ) → ancestor-lts.Need-returns-2 (ancestor-claims t) (ancestor-at t) ancestor.Post
 ancestor-returns-2 t c =
     let s = c .before .before .before .args in
     let l = c .before .before .resolution .ensures in
     sym (ancestor-own (s .c) (s .target) (sym l ∙ c .if2 .taken))
 
-ancestor-parent-requires : (t : ℕ) → ancestor-lts.Need-parent-requires (
-  resolution-reads.Asked,
-  resolution-reads.Learnt,
-  parent-reads.Asked,
-  parent-reads.Learnt,
-  ancestor-below t,
-  ancestor.Post,
-) (ancestor-at t) ancestor.Post
+ancestor-parent-requires : (t : ℕ) → ancestor-lts.Need-parent-requires (ancestor-claims t) (ancestor-at t) ancestor.Post
 ancestor-parent-requires t c κs = search needs
 
-ancestor-enum-known-up : (t : ℕ) → ancestor-lts.Need-enum-known-up (
-  resolution-reads.Asked,
-  resolution-reads.Learnt,
-  parent-reads.Asked,
-  parent-reads.Learnt,
-  ancestor-below t,
-  ancestor.Post,
-) (ancestor-at t) ancestor.Post
+ancestor-enum-known-up : (t : ℕ) → ancestor-lts.Need-enum-known-up (ancestor-claims t) (ancestor-at t) ancestor.Post
 ancestor-enum-known-up t c = search needs
 
-ancestor-enum-known-up-2 : (t : ℕ) → ancestor-lts.Need-enum-known-up-2 (
-  resolution-reads.Asked,
-  resolution-reads.Learnt,
-  parent-reads.Asked,
-  parent-reads.Learnt,
-  ancestor-below t,
-  ancestor.Post,
-) (ancestor-at t) ancestor.Post
+ancestor-enum-known-up-2 : (t : ℕ) → ancestor-lts.Need-enum-known-up-2 (ancestor-claims t) (ancestor-at t) ancestor.Post
 ancestor-enum-known-up-2 t c = search needs
 
-ancestor-ancestor-requires : (t : ℕ) → ancestor-lts.Need-ancestor-requires (
-  resolution-reads.Asked,
-  resolution-reads.Learnt,
-  parent-reads.Asked,
-  parent-reads.Learnt,
-  ancestor-below t,
-  ancestor.Post,
-) (ancestor-at t) ancestor.Post
+ancestor-ancestor-requires : (t : ℕ) → ancestor-lts.Need-ancestor-requires (ancestor-claims t) (ancestor-at t) ancestor.Post
 ancestor-ancestor-requires t c κs =
     let up = c .before .before .before in
     let s = up .before .before .before .before in
@@ -111,14 +66,7 @@ ancestor-ancestor-requires t c κs =
     let less = up .before .if2 .left in
     (nearer (s .args .c) _ (s .args .target) (omega (arith, l, less)) (sym (up .parent .ensures) ∙ c .before .up2 .given .1) (s .pre .0), tt)
 
-ancestor-returns-3 : (t : ℕ) → ancestor-lts.Need-returns-3 (
-  resolution-reads.Asked,
-  resolution-reads.Learnt,
-  parent-reads.Asked,
-  parent-reads.Learnt,
-  ancestor-below t,
-  ancestor.Post,
-) (ancestor-at t) ancestor.Post
+ancestor-returns-3 : (t : ℕ) → ancestor-lts.Need-returns-3 (ancestor-claims t) (ancestor-at t) ancestor.Post
 ancestor-returns-3 t c =
     let up = c .before .before .before in
     let s = up .before .before .before .before .args in
@@ -126,14 +74,7 @@ ancestor-returns-3 t c =
     let less = up .before .if2 .left in
     sym (ancestor-refused (s .c) (s .target) (omega (arith, l, less)) _ (sym (up .parent .ensures) ∙ c .before .up .given .1))
 
-ancestor-returns-4 : (t : ℕ) → ancestor-lts.Need-returns-4 (
-  resolution-reads.Asked,
-  resolution-reads.Learnt,
-  parent-reads.Asked,
-  parent-reads.Learnt,
-  ancestor-below t,
-  ancestor.Post,
-) (ancestor-at t) ancestor.Post
+ancestor-returns-4 : (t : ℕ) → ancestor-lts.Need-returns-4 (ancestor-claims t) (ancestor-at t) ancestor.Post
 ancestor-returns-4 t c =
     let up = c .before .before .before .before in
     let s = up .before .before .before .before .args in
@@ -143,14 +84,7 @@ ancestor-returns-4 t c =
     ∙ sym (ancestor-parent (s .c) _ (s .target) (omega (arith, l, less)) (sym (up .parent .ensures) ∙ c .before .before .up2 .given .1))
 
 pub +ancestor-spec : {M : Type 1} → statement M
-+ancestor-spec = close μ-ancestor λ t. ancestor-lts.spec (
-  resolution-reads.Asked,
-  resolution-reads.Learnt,
-  parent-reads.Asked,
-  parent-reads.Learnt,
-  ancestor-below t,
-  ancestor.Post,
-)
++ancestor-spec = close μ-ancestor λ t. ancestor-lts.spec (ancestor-claims t)
     (ancestor-at t)
     ancestor.Post
     (ancestor-resolution-requires t)

@@ -1,7 +1,6 @@
 -- Field by field: each is the number that its function gave.
 use borrow.Author.Needs.{needs}
-use mathlib.Core.Path.{_∙_}
-use Rattle.cell.proofs.Complement.{kept}
+use Rattle.lattice.specs.Fields.{put}
 use Rattle.cell.specs.Cell.{coordOf}
 use Rattle.cell.proofs.coord.Statement.{statement}
 use Rattle.cell.proofs.coord.Tie as tie
@@ -18,9 +17,9 @@ z-requires c κs = search needs
 returns : tie.Need-returns
 unfolding coordOf
 returns c =
-    let ex = kept _ (c .before .before .x .ok) ∙ c .before .before .x .ensures in
-    let ey = kept _ (c .before .y .ok) ∙ c .before .y .ensures in
-    let ez = kept _ (c .z .ok) ∙ c .z .ensures in
+    let ex = put (record { sfits = c .before .before .x .ok }) (c .before .before .x .ensures) in
+    let ey = put (record { sfits = c .before .y .ok }) (c .before .y .ensures) in
+    let ez = put (record { sfits = c .z .ok }) (c .z .ensures) in
     λ i. record { x = ex i; y = ey i; z = ez i }
 
 pub coord-spec : {M : Type 1} → statement M

@@ -3,7 +3,7 @@ use borrow.Author.Needs.{needs}
 use mathlib.Core.Path.{_∙_, ap}
 use Rattle.refusal.specs.declared.Coord.{Coord}
 use Rattle.cell.specs.Cell.{newOf}
-use Rattle.cell.specs.Bits.{kept-place}
+use Rattle.lattice.specs.Fields.{kept-same}
 use Rattle.cell.proofs.from_coords.Statement.{statement}
 use Rattle.cell.proofs.from_coords.Tie as tie
 
@@ -14,7 +14,7 @@ returns : tie.Need-returns
 returns c =
     let s = c .before in
     c .new .ensures
-    ∙ ap (λ (p : Coord). newOf (s .args .frame) (s .args .resolution) p 0 0) (kept-place (s .fits .x) (s .fits .y) (s .fits .z))
+    ∙ ap (λ (p : Coord). newOf (s .args .frame) (s .args .resolution) p 0 0) (kept-same (record { in-x = s .fits .x; in-y = s .fits .y; in-z = s .fits .z }))
 
 pub from-coords-spec : {M : Type 1} → statement M
 from-coords-spec = tie.close (tie.spec new-requires returns)

@@ -13,7 +13,7 @@ use Rattle.lattice.proofs.ParityAnswer.{the-type}
 use Rattle.lattice.specs.declared.ParityAnswer.{ParityAnswer}
 use Rattle.lattice.specs.Lattice.{parityOf, hasChildRoom, below}
 use Rattle.cell.specs.Cell.{resolutionOf, coordOf, plainAt, childCells, childrenIn, childrenBy, childrenOf}
-use Rattle.cell.proofs.Answers.{answered}
+use Rattle.lattice.proofs.Answers.{answered}
 use Rattle.cell.proofs.get_children.Statement.{statement}
 use Rattle.cell.proofs.get_children.Tie as tie
 

@@ -11,7 +11,7 @@ use Rattle.lattice.proofs.ParityAnswer.{the-type}
 use Rattle.lattice.specs.declared.ParityAnswer.{ParityAnswer}
 use Rattle.lattice.specs.Lattice.{parityOf, hasNeighborRoom, around}
 use Rattle.cell.specs.Cell.{coordOf, plainAt, nearCells, neighborsIn, neighborsBy, neighborsOf}
-use Rattle.cell.proofs.Answers.{answered}
+use Rattle.lattice.proofs.Answers.{answered}
 use Rattle.cell.proofs.get_neighbors.Statement.{statement}
 use Rattle.cell.proofs.get_neighbors.Tie as tie
 

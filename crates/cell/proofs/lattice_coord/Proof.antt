@@ -3,7 +3,7 @@ use borrow.Author.Needs.{needs}
 use mathlib.Core.Path.{sym, _∙_, ap}
 use Rattle.lattice.specs.Lattice.{parityOf}
 use Rattle.cell.specs.Cell.{coordBy, latticeCoordOf}
-use Rattle.cell.proofs.Answers.{answered}
+use Rattle.lattice.proofs.Answers.{answered}
 use Rattle.cell.proofs.lattice_coord.Statement.{statement}
 use Rattle.cell.proofs.lattice_coord.Tie as tie
 

@@ -4,7 +4,7 @@ use mathlib.Core.Path.{sym, _∙_, ap}
 use Rattle.lattice.specs.declared.ParityAnswer.{ParityAnswer}
 use Rattle.cell.specs.declared.CellAnswer.the-variants.{Is}
 use Rattle.cell.specs.Cell.{packed, newBy, newOf}
-use Rattle.cell.proofs.Answers.{answered}
+use Rattle.lattice.proofs.Answers.{answered}
 use Rattle.cell.proofs.new_at.Statement.{statement}
 use Rattle.cell.proofs.new_at.Tie as tie
 

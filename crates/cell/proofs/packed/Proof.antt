@@ -2,7 +2,8 @@
 use mathlib.Core.Path.{_∙_, ap}
 use mir.Syntax.{w32}
 use mir.Val.{ofZ}
-use Rattle.cell.proofs.Complement.{kept}
+use mir.Facts.{toZ-ofZ}
+use Rattle.lattice.specs.Fields.{fit}
 use Rattle.cell.specs.Cell.{packed}
 use borrow.Author.Needs.{needs}
 use Rattle.cell.proofs.packed.Statement.{statement}
@@ -66,10 +67,10 @@ returns : tie.Need-returns
 unfolding packed
 returns c =
     let s = c .before .before .before .before .before .before .args .c in
-    let told = c .before .struct-told3 .given in
-    let ex = c .before .before .before .before .bits-of .ensures ∙ ap (ofZ w32) (kept (s .x) (told .0 .1)) in
-    let ey = c .before .before .bits-of2 .ensures ∙ ap (ofZ w32) (kept (s .y) (told .1 .0 .1)) in
-    let ez = c .bits-of3 .ensures ∙ ap (ofZ w32) (kept (s .z) (told .1 .1 .0 .1)) in
+    let fits = fit s (c .before .struct-told3 .given) in
+    let ex = c .before .before .before .before .bits-of .ensures ∙ ap (ofZ w32) (toZ-ofZ (fits .in-x)) in
+    let ey = c .before .before .bits-of2 .ensures ∙ ap (ofZ w32) (toZ-ofZ (fits .in-y)) in
+    let ez = c .bits-of3 .ensures ∙ ap (ofZ w32) (toZ-ofZ (fits .in-z)) in
     cc
 
 pub packed-spec : {M : Type 1} → statement M

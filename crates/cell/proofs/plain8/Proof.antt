@@ -2,8 +2,7 @@
 use borrow.Author.Needs.{needs}
 use native.Mathlib.Omega.{arith}
 use Prim.Native.Nat.{_-_}
-use lib.IntN.{pos}
-use Rattle.lattice.specs.Lattice.{at}
+use Rattle.lattice.specs.Lattice.{origin}
 use Rattle.cell.specs.Cell.{plainAt}
 use Rattle.cell.proofs.Filled.{Filled, filled-more, filled-all}
 use Rattle.cell.proofs.plain8.Statement.{statement}
@@ -40,7 +39,7 @@ loop-less : tie.Need-loop-less Inv-loop μ-loop
 loop-less c = search needs
 
 loop-again : tie.Need-loop-again Inv-loop μ-loop
-loop-again c = filled-more (c .before .before .before .loop .inv) (at (pos 0) (pos 0) (pos 0)) (c .plain .result) (omega arith) (c .plain .ensures)
+loop-again c = filled-more (c .before .before .before .loop .inv) origin (c .plain .result) (omega arith) (c .plain .ensures)
 
 returns : tie.Need-returns Inv-loop μ-loop
 returns c = filled-all (c .before .loop .inv) (omega arith)

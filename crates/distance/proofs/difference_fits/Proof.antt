@@ -6,7 +6,7 @@ use lib.Signed.{leZ}
 use mir.Syntax.{w32, w64}
 use mir.Val.{toZ, ofZ}
 use mir.Facts.{toZ-ofZ}
-use Rattle.distance.proofs.Differences.{wide, wide-fits, apart-fits}
+use Rattle.lattice.specs.Fields.{wide-fits, widened, difference-fits}
 use Rattle.distance.proofs.difference_fits.Statement.{statement}
 use Rattle.distance.proofs.difference_fits.Tie as tie
 
@@ -17,14 +17,14 @@ cast-d-2 : tie.Need-cast-d-2
 cast-d-2 c = rw (toZ-ofZ (c .fits .b)) (wide-fits (c .fits .b))
 
 sub-d : tie.Need-sub-d
-sub-d c = rw (wide (c .fits .a), wide (c .fits .b)) (apart-fits (c .fits .a) (c .fits .b))
+sub-d c = rw (widened (c .fits .a), widened (c .fits .b)) (difference-fits (c .fits .a) (c .fits .b))
 
 abbrev read : ℤ → ℤ
 read z = toZ w64 (ofZ w64 (toZ w32 (ofZ w32 z)))
 
 -- the difference that the code holds
 difference : (c : tie.Start) → toZ w64 (ofZ w64 (read (c .args .a) -ℤ read (c .args .b))) ≡ c .args .a -ℤ c .args .b
-difference c = (λ i. toZ w64 (ofZ w64 (wide (c .fits .a) i -ℤ wide (c .fits .b) i))) ∙ toZ-ofZ (apart-fits (c .fits .a) (c .fits .b))
+difference c = (λ i. toZ w64 (ofZ w64 (widened (c .fits .a) i -ℤ widened (c .fits .b) i))) ∙ toZ-ofZ (difference-fits (c .fits .a) (c .fits .b))
 
 returns : tie.Need-returns
 returns c =

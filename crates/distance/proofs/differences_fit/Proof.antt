@@ -2,7 +2,7 @@
 use borrow.Author.Needs.{needs}
 use mathlib.Core.Path.{_≡_, sym, _∙_}
 use mathlib.Core.Bool.{_&&_}
-use Rattle.lattice.proofs.Fields.{read}
+use Rattle.lattice.specs.Fields.{read}
 use Rattle.distance.specs.Distance.{differenceFits, differencesFit}
 use Rattle.distance.proofs.differences_fit.Statement.{statement}
 use Rattle.distance.proofs.differences_fit.Tie as tie

@@ -1,20 +1,20 @@
 -- The differences fit, as the test says, so that each square is that of the definition.
 use mathlib.Core.Path.{sym, _∙_, subst}
 use lib.Ieee.{binary64, add}
-use Rattle.lattice.proofs.Fields.{read, kept}
-use Rattle.lattice.specs.Lattice.{Fit}
+use Rattle.lattice.specs.Fields.{read, kept}
+use Rattle.lattice.specs.Lattice.{Fitting}
 use Rattle.distance.specs.Distance.{squareApart, squaredDistance}
 use Rattle.distance.specs.Laws.{difference, differences-fit}
 use Rattle.distance.proofs.squared_distance.Statement.{statement}
 use Rattle.distance.proofs.squared_distance.Tie as tie
 
 -- the differences of the two places as they are read
-fitting : (c : tie.After-struct-told2) → Fit (difference (kept (c .before .before .args .a)) (kept (c .before .before .args .b)))
+fitting : (c : tie.After-struct-told2) → Fitting (difference (kept (c .before .before .args .a)) (kept (c .before .before .args .b)))
 fitting c =
     let start = c .before .before in
     let a = read (start .args .a) (c .before .struct-told .given) in
     let b = read (start .args .b) (c .struct-told2 .given) in
-    subst Fit (λ i. difference (sym a i) (sym b i)) (differences-fit (start .args .a) (start .args .b) (start .pre))
+    subst Fitting (λ i. difference (sym a i) (sym b i)) (differences-fit (start .args .a) (start .args .b) (start .pre))
 
 square-apart-requires : tie.Need-square-apart-requires
 square-apart-requires c κs = fitting c .in-x

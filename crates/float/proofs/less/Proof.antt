@@ -2,7 +2,8 @@
 use mathlib.Core.Path.{sym, _∙_}
 use lib.Ieee.{ofBits, binary64}
 use borrow.Author.Needs.{needs}
-use Rattle.float.proofs.Nans.{nan-value, below-nothing, nothing-below}
+use Rattle.float.specs.Laws.{nan-value}
+use Rattle.float.proofs.Nans.{below-nothing, nothing-below}
 use Rattle.float.proofs.less.Statement.{statement}
 use Rattle.float.proofs.less.Tie as tie
 

@@ -5,7 +5,8 @@ use native.Mathlib.Omega.{arith}
 use lib.Dec.{le→leb}
 use lib.IntN.{pos}
 use lib.Ieee.{binary64, ofBits, ofInt, inFloat}
-use Rattle.float.proofs.Rounding.{so, whole, large-stays}
+use Rattle.float.specs.Laws.{so}
+use Rattle.float.proofs.Rounding.{whole, large-stays}
 use Rattle.float.proofs.round_above_zero.Statement.{statement}
 use Rattle.float.proofs.round_above_zero.Tie as tie
 

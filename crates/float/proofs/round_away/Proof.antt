@@ -2,7 +2,7 @@
 use mathlib.Core.Path.{_∙_, ap}
 use lib.Ieee.{ofBits, neg}
 use borrow.Author.Needs.{needs}
-use Rattle.float.proofs.Rounding.{so}
+use Rattle.float.specs.Laws.{so}
 use Rattle.float.proofs.Signs.{away-neg, negative-above, zero-stays}
 use Rattle.float.proofs.round_away.Statement.{statement}
 use Rattle.float.proofs.round_away.Tie as tie

@@ -3,7 +3,8 @@ use mathlib.Core.Path.{_∙_, ap}
 use Prim.Native.Nat.{ℕ, _+_, _/_}
 use native.Mathlib.Omega.{arith}
 use lib.Ieee.{ofBits}
-use Rattle.float.proofs.Rounding.{so, doubled}
+use Rattle.float.specs.Laws.{so}
+use Rattle.float.proofs.Rounding.{doubled}
 use Rattle.float.proofs.whole_size.Statement.{statement}
 use Rattle.float.proofs.whole_size.Tie as tie
 

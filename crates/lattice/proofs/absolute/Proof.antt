@@ -8,7 +8,8 @@ use lib.Signed.{nonNeg}
 use mir.Syntax.{w32, w64}
 use mir.Val.{Fits, SFits, ofZ, toZ}
 use mir.Facts.{toZ-ofZ}
-use Rattle.lattice.proofs.Signs.{abs-fits, abs-below, abs-above}
+use Rattle.lattice.specs.Fields.{below-fits}
+use Rattle.lattice.proofs.Signs.{abs-below, abs-above}
 use Rattle.lattice.proofs.absolute.Statement.{statement}
 use Rattle.lattice.proofs.absolute.Tie as tie
 
@@ -22,7 +23,7 @@ negated c =
     rw same (abs-below (c .before .args .d) (rw same at (c .if1 .taken)))
 
 sub-result : tie.Need-sub-result
-sub-result c = subst (SFits w64) (sym (negated c)) (abs-fits (pos (natAbs (c .before .args .d))) (c .before .pre))
+sub-result c = subst (SFits w64) (sym (negated c)) (below-fits (pos (natAbs (c .before .args .d))) (c .before .pre))
 
 cast-result : tie.Need-cast-result
 cast-result c = castable (c .before .args .d) _ (c .before .pre) (toZ-ofZ (sub-result c) ∙ negated c)

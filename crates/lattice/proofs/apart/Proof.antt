@@ -6,7 +6,7 @@ use lib.IntN.{ℤ, natAbs, _-ℤ_}
 use mir.Syntax.{w64}
 use mir.Val.{ofZ, toZ}
 use mir.Facts.{toZ-ofZ}
-use Rattle.lattice.proofs.Signs.{apart-fits}
+use Rattle.lattice.specs.Fields.{apart-below}
 use Rattle.lattice.proofs.apart.Statement.{statement}
 use Rattle.lattice.proofs.apart.Tie as tie
 
@@ -20,7 +20,7 @@ between c =
 absolute-requires : tie.Need-absolute-requires
 absolute-requires c κs =
     let start = c .before in
-    subst (λ (z : ℤ). natAbs z < 2 ^ 32) (sym (between c)) (apart-fits (start .args .a) (start .args .b) (start .fits .a) (start .fits .b))
+    subst (λ (z : ℤ). natAbs z < 2 ^ 32) (sym (between c)) (apart-below (start .args .a) (start .args .b) (start .fits .a) (start .fits .b))
 
 returns : tie.Need-returns
 returns c = c .absolute .ensures ∙ ap natAbs (between (c .before))

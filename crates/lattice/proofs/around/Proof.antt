@@ -2,12 +2,12 @@
 use Prim.Native.Nat.{ℕ}
 use mathlib.Core.List.{[], _∷_}
 use lib.ListN.{getD}
-use Rattle.lattice.specs.Lattice.{moved, Fit, neighborSteps, around}
-use Rattle.lattice.proofs.Room.{origin, near}
+use Rattle.lattice.specs.Lattice.{origin, moved, Fitting, neighborSteps, around}
+use Rattle.lattice.proofs.Room.{near}
 use Rattle.lattice.proofs.around.Statement.{statement}
 use Rattle.lattice.proofs.around.Tie as tie
 
-step : (c : tie.Start) (k : ℕ) → Fit (moved (c .args .c) (getD neighborSteps k origin))
+step : (c : tie.Start) (k : ℕ) → Fitting (moved (c .args .c) (getD neighborSteps k origin))
 step c k = near (c .args .c) (c .pre) k
 
 moved-requires : tie.Need-moved-requires

@@ -4,17 +4,17 @@ use mathlib.Core.Path.{sym, subst, _∙_, ap}
 use mathlib.Core.List.{[], _∷_, map}
 use lib.ListN.{getD}
 use Rattle.refusal.specs.declared.Coord.{Coord}
-use Rattle.lattice.specs.Lattice.{moved, Fit, childSteps, below}
-use Rattle.lattice.proofs.Room.{origin, twice, lower}
+use Rattle.lattice.specs.Lattice.{origin, moved, Fitting, childSteps, below}
+use Rattle.lattice.proofs.Room.{twice, lower}
 use Rattle.lattice.proofs.below.Statement.{statement}
 use Rattle.lattice.proofs.below.Tie as tie
 
 doubled-requires : tie.Need-doubled-requires
 doubled-requires c κs = twice (c .args .c) (c .pre)
 
-step : (c : tie.After-doubled) (k : ℕ) → Fit (moved (c .doubled .result) (getD childSteps k origin))
+step : (c : tie.After-doubled) (k : ℕ) → Fitting (moved (c .doubled .result) (getD childSteps k origin))
 step c k =
-    subst (λ (p : Coord). Fit (moved p (getD childSteps k origin))) (sym (c .doubled .ensures))
+    subst (λ (p : Coord). Fitting (moved p (getD childSteps k origin))) (sym (c .doubled .ensures))
     (lower (c .before .args .c) (c .before .pre) k)
 
 moved-requires : tie.Need-moved-requires

@@ -1,8 +1,7 @@
 -- Both numbers are as they were in 64 bits, where their difference fits.
 use mathlib.Core.Path.{_∙_}
-use lib.IntN.{_-ℤ_}
 use mir.Facts.{toZ-ofZ}
-use Rattle.lattice.proofs.Signs.{wide-fits, widened, abs-fits, apart-fits}
+use Rattle.lattice.specs.Fields.{wide-fits, widened, difference-fits}
 use Rattle.lattice.proofs.difference.Statement.{statement}
 use Rattle.lattice.proofs.difference.Tie as tie
 
@@ -13,10 +12,7 @@ cast-result-2 : tie.Need-cast-result-2
 cast-result-2 c = rw (toZ-ofZ (c .fits .b)) (wide-fits (c .fits .b))
 
 sub-result : tie.Need-sub-result
-sub-result c =
-    let a = c .args .a in
-    let b = c .args .b in
-    rw (widened (c .fits .a), widened (c .fits .b)) (abs-fits (a -ℤ b) (apart-fits a b (c .fits .a) (c .fits .b)))
+sub-result c = rw (widened (c .fits .a), widened (c .fits .b)) (difference-fits (c .fits .a) (c .fits .b))
 
 returns : tie.Need-returns
 returns c = toZ-ofZ (sub-result c) ∙ rw (widened (c .fits .a), widened (c .fits .b))

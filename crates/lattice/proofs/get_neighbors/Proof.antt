@@ -10,7 +10,7 @@ use Rattle.refusal.specs.declared.Outcome.the-variants.{Answered}
 use Rattle.lattice.specs.declared.ParityAnswer.{ParityAnswer}
 use Rattle.lattice.specs.Lattice.{parityOf, hasNeighborRoom, neighborsIn, neighborsBy, neighborsOf}
 use Rattle.lattice.proofs.ParityAnswer.{the-type}
-use Rattle.lattice.proofs.Answers.{known}
+use Rattle.lattice.proofs.Answers.{answered}
 use Rattle.lattice.proofs.get_neighbors.Statement.{statement}
 use Rattle.lattice.proofs.get_neighbors.Tie as tie
 
@@ -20,7 +20,7 @@ by-parity c a e = ap (λ (p : ParityAnswer). neighborsBy p c) e
 
 by-room : (c : Coord) (a : ParityAnswer) (roomy : Bool) → parityOf c ≡ a → OneOf (0 ∷ []) (tagOf the-type a) → hasNeighborRoom c ≡ roomy → neighborsOf c ≡ neighborsIn roomy c
 by-room c a roomy e k h =
-    by-parity c a e ∙ ap (λ (p : ParityAnswer). neighborsBy p c) (known a k .1) ∙ ap (λ (b : Bool). neighborsIn b c) h
+    by-parity c a e ∙ ap (λ (p : ParityAnswer). neighborsBy p c) (answered a k .1) ∙ ap (λ (b : Bool). neighborsIn b c) h
 
 parity-of-requires : tie.Need-parity-of-requires
 parity-of-requires c κs = search needs

@@ -2,7 +2,7 @@
 use borrow.Author.Needs.{needs}
 use mathlib.Core.Path.{_≡_, _∙_, ap}
 use Rattle.lattice.specs.Lattice.{at, halves, hasNeighborRoom}
-use Rattle.lattice.proofs.Fields.{fit, read, put}
+use Rattle.lattice.specs.Fields.{fit, read, put}
 use Rattle.lattice.proofs.Room.{halves-near}
 use Rattle.lattice.proofs.halves.Statement.{statement}
 use Rattle.lattice.proofs.halves.Tie as tie

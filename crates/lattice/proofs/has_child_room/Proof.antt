@@ -3,7 +3,7 @@ use borrow.Author.Needs.{needs}
 use mathlib.Core.Path.{_∙_, ap}
 use mathlib.Core.Bool.{_&&_}
 use Rattle.lattice.specs.Lattice.{hasChildRoom}
-use Rattle.lattice.proofs.Fields.{read}
+use Rattle.lattice.specs.Fields.{read}
 use Rattle.lattice.proofs.has_child_room.Statement.{statement}
 use Rattle.lattice.proofs.has_child_room.Tie as tie
 

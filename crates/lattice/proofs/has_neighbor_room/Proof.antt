@@ -3,7 +3,7 @@ use borrow.Author.Needs.{needs}
 use mathlib.Core.Path.{_∙_, ap}
 use mathlib.Core.Bool.{_&&_}
 use Rattle.lattice.specs.Lattice.{hasNeighborRoom}
-use Rattle.lattice.proofs.Fields.{read}
+use Rattle.lattice.specs.Fields.{read}
 use Rattle.lattice.proofs.has_neighbor_room.Statement.{statement}
 use Rattle.lattice.proofs.has_neighbor_room.Tie as tie
 

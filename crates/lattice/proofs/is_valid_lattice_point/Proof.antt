@@ -4,7 +4,7 @@ use mathlib.Core.Path.{_≡_, sym, _∙_, ap}
 use mathlib.Core.Bool.{Bool, _&&_, Bool·beq}
 use Rattle.refusal.specs.declared.Coord.{Coord}
 use Rattle.lattice.specs.Lattice.{isLatticePoint}
-use Rattle.lattice.proofs.Fields.{read}
+use Rattle.lattice.specs.Fields.{read}
 use Rattle.lattice.proofs.is_valid_lattice_point.Statement.{statement}
 use Rattle.lattice.proofs.is_valid_lattice_point.Tie as tie
 

@@ -3,7 +3,7 @@ use borrow.Author.Needs.{needs}
 use Prim.Native.Nat.{_+_}
 use mathlib.Core.Path.{_∙_}
 use Rattle.lattice.specs.Lattice.{manhattan}
-use Rattle.lattice.proofs.Fields.{read}
+use Rattle.lattice.specs.Fields.{read}
 use Rattle.lattice.proofs.manhattan.Statement.{statement}
 use Rattle.lattice.proofs.manhattan.Tie as tie
 

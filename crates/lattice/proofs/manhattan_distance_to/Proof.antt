@@ -16,7 +16,7 @@ use Rattle.lattice.specs.declared.ParityAnswer.{ParityAnswer}
 use Rattle.lattice.specs.declared.ParityAnswer.the-variants as parity
 use Rattle.lattice.specs.declared.NumberAnswer.the-variants.{Is, Refused}
 use Rattle.lattice.specs.Lattice.{parityOf, manhattan, manhattanBy, manhattanOf}
-use Rattle.lattice.proofs.Answers.{known}
+use Rattle.lattice.proofs.Answers.{answered}
 use Rattle.lattice.proofs.manhattan_distance_to.Statement.{statement}
 use Rattle.lattice.proofs.manhattan_distance_to.Tie as tie
 
@@ -58,8 +58,8 @@ returns c =
     let first = told .before .before .before .before .parity-of in
     by-parities (start .a) (start .b) (sym (first .ensures) ∙ told .first .given .1) refl
 
-abbrev first-known : (c : tie.At-match-keys2) → parityOf (c .before .before .before .before .args .a) ≡ parity.Is (known (c .before .before .before .parity-of .result) (c .match .keys2) .0)
-first-known c = sym (c .before .before .before .parity-of .ensures) ∙ known (c .before .before .before .parity-of .result) (c .match .keys2) .1
+abbrev first-known : (c : tie.At-match-keys2) → parityOf (c .before .before .before .before .args .a) ≡ parity.Is (answered (c .before .before .before .parity-of .result) (c .match .keys2) .0)
+first-known c = sym (c .before .before .before .parity-of .ensures) ∙ answered (c .before .before .before .parity-of .result) (c .match .keys2) .1
 
 returns-2 : tie.Need-returns-2
 returns-2 c =
@@ -76,7 +76,7 @@ summed c e =
     let n = matched .before .manhattan .result in
     ap (λ (b : Bool). cond b (Is (pos n)) (Refused CoordOverflow)) (sym e)
     ∙ ap (λ (m : ℕ). cond (leb m 2147483647) (Is (pos m)) (Refused CoordOverflow)) (matched .before .manhattan .ensures)
-    ∙ by-parities (start .a) (start .b) (first-known matched) (sym (second .ensures) ∙ known (second .result) (c .before .match2 .keys2) .1)
+    ∙ by-parities (start .a) (start .b) (first-known matched) (sym (second .ensures) ∙ answered (second .result) (c .before .match2 .keys2) .1)
 
 returns-3 : tie.Need-returns-3
 returns-3 c =

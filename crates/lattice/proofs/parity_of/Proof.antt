@@ -7,7 +7,7 @@ use Rattle.refusal.specs.declared.Refusal.the-variants.{InvalidParity}
 use Rattle.lattice.specs.declared.Parity.the-variants.{Even, Odd}
 use Rattle.lattice.specs.declared.ParityAnswer.the-variants.{Is, Refused}
 use Rattle.lattice.specs.Lattice.{isOdd, parityOf}
-use Rattle.lattice.proofs.Fields.{read}
+use Rattle.lattice.specs.Fields.{read}
 use Rattle.lattice.proofs.parity_of.Statement.{statement}
 use Rattle.lattice.proofs.parity_of.Tie as tie
 

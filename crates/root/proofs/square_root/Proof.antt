@@ -8,7 +8,8 @@ use mathlib.Core.Bool.{true, false}
 use lib.Ieee.{Float, binary64, ofBits, inFloat, eq, ofInt}
 use Rattle.root.specs.declared.Root.the-variants.{Of}
 use Rattle.root.specs.Root.{rootOf, rootWhole}
-use Rattle.root.proofs.Whole.{so, above-minus-one, cast-pos, root-below, none-below, root-above, is-big, too-big, zero-no-nan, is-nought, minus-nought, too-small}
+use Rattle.float.specs.Laws.{so}
+use Rattle.root.proofs.Whole.{above-minus-one, cast-pos, root-below, none-below, root-above, is-big, too-big, zero-no-nan, is-nought, minus-nought, too-small}
 use Rattle.root.proofs.square_root.Statement.{statement}
 use Rattle.root.proofs.square_root.Tie as tie
 

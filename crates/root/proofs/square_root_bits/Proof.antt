@@ -1,19 +1,12 @@
 -- `bitsOf` of what `square_root` answers. A NaN's pattern is tested first, and an answer is never a NaN (`of-number`), so both turns between f64 and bits are defined.
-use mathlib.Core.Path.{_≡_, refl, sym, ap, _∙_}
-use mathlib.Core.Bool.{true}
+use mathlib.Core.Path.{sym, ap, _∙_}
 use borrow.Author.Needs.{needs}
-use lib.Ieee.{Float, nan, inf, fin, binary64, ofBits, isNan}
-use lib.Ieee.Bits.{nanBits-is}
+use lib.Ieee.{Float, binary64, ofBits}
+use Rattle.float.specs.Laws.{nan-value}
 use Rattle.root.specs.Root.{rootOf, rootBitsOf, bitsOf}
 use Rattle.root.specs.Number.{of-number}
 use Rattle.root.proofs.square_root_bits.Statement.{statement}
 use Rattle.root.proofs.square_root_bits.Tie as tie
-
-is-nan : (x : Float) → isNan x ≡ true → x ≡ nan
-unfolding isNan
-is-nan nan e = refl
-is-nan (inf s) e = cc
-is-nan (fin s m k) e = cc
 
 is-nan-requires : tie.Need-is-nan-requires
 is-nan-requires c κs = search needs
@@ -22,7 +15,7 @@ returns : tie.Need-returns
 unfolding rootBitsOf rootOf
 returns c =
     let b = c .before .before .args .bits in
-    sym (ap (λ (x : Float). bitsOf (rootOf x)) (is-nan (ofBits binary64 b) (sym (nanBits-is binary64 b) ∙ sym (c .before .is-nan .ensures) ∙ c .if1 .taken)))
+    sym (ap (λ (x : Float). bitsOf (rootOf x)) (nan-value b (sym (c .before .is-nan .ensures) ∙ c .if1 .taken)))
 
 float-from-bits-square-root : tie.Need-float-from-bits-square-root
 float-from-bits-square-root c = rw (sym (c .before .is-nan .ensures) ∙ c .if1 .left) tt

@@ -2,8 +2,9 @@
 use borrow.Author.Needs.{needs}
 use mathlib.Core.Path.{sym, _∙_}
 use lib.Ieee.{binary64, ofBits}
+use Rattle.float.specs.Laws.{nan-value}
 use Rattle.snap.specs.Snap.{point, snapOf}
-use Rattle.snap.proofs.Answers.{nan-value, nan-x, nan-y, nan-z}
+use Rattle.snap.proofs.Answers.{nan-x, nan-y, nan-z}
 use Rattle.snap.proofs.snap_bits.Statement.{statement}
 use Rattle.snap.proofs.snap_bits.Tie as tie
 

@@ -4,7 +4,7 @@ use mathlib.Core.Path.{ap, _∙_}
 use lib.Ieee.{binary64, add}
 use Rattle.refusal.specs.declared.Coord.{Coord}
 use Rattle.snap.specs.Snap.{squaresOff}
-use Rattle.snap.proofs.Fields.{read}
+use Rattle.lattice.specs.Fields.{read}
 use Rattle.snap.proofs.squares_off.Statement.{statement}
 use Rattle.snap.proofs.squares_off.Tie as tie
 

@@ -7,8 +7,8 @@ use Rattle.lattice.specs.declared.ParityAnswer.{ParityAnswer}
 use Rattle.lattice.specs.Lattice.{parityOf}
 use Rattle.snap.specs.declared.PointAnswer.the-variants.{Is}
 use Rattle.snap.specs.Snap.{point, physicalBy, physicalOf}
-use Rattle.snap.proofs.Answers.{answered}
-use Rattle.snap.proofs.Fields.{read}
+use Rattle.lattice.proofs.Answers.{answered}
+use Rattle.lattice.specs.Fields.{read}
 use Rattle.snap.proofs.to_physical.Statement.{statement}
 use Rattle.snap.proofs.to_physical.Tie as tie
 

@@ -1,0 +1,13 @@
+-- What it is for a function's arguments to decide its answer: two answers that both meet its contract are one. `Out n ps r` is the kind of a contract that Rattle made of
+-- the source's `ensures`, so what is said here is said of the contract itself. Definitions only. Assumes nothing.
+use mathlib.Core.Path.{_≡_}
+use mathlib.Core.List.{List}
+use Prim.Native.Nat.{ℕ}
+use contract.Lifetimes.{Lfts}
+use denote.Triple.Clauses.{AtExit}
+use borrow.Fn.Kinds.{PK, RK, Out, Dens, resT, endedOf}
+
+-- at the same arguments any two answers that the contract lets through are equal
+abbrev pub OneAnswer : (n : ℕ) (ps : List (PK n)) (r : RK n) → Out n ps r → Type 0
+OneAnswer n ps r Post =
+    (κs : Lfts n) (a : Dens κs ps) (z z′ : resT r κs .Denot) (e e′ : AtExit (endedOf n ps r) κs) → Post κs a z e → Post κs a z′ e′ → z ≡ z′
