@@ -4,3 +4,4 @@ pub mod Places
 pub mod Given
 pub mod Found
 pub mod OneAnswer
+pub mod OneAnswerCells
