@@ -1,6 +1,6 @@
 -- Two's complement at 32 bits, as `twos` works it out. Assumes nothing.
-use mathlib.Core.Path.{_≡_, refl, sym, subst, ap, _∙_}
-use mathlib.Core.Bool.{Bool, true, false}
+use mathlib.Core.Path.{_≡_, refl, subst, ap, _∙_}
+use mathlib.Core.Bool.{true, false}
 use Prim.Native.Nat.{ℕ, suc, _+_, _-_, _≤_, _<_, _^_}
 use native.Mathlib.Omega.{arith}
 use borrow.Author.Tests.{le-ltb, lt-ltb, ltb-true}
@@ -8,17 +8,12 @@ use lib.Dec.{T}
 use lib.IntN.{ℤ, pos, negsuc, natAbs, _+ℤ_, _-ℤ_}
 use lib.Signed.{mag, ltZ, nonNeg}
 use mir.Syntax.{w32}
-use mir.Val.{Fits, SFits, toZ, ofZ}
+use mir.Val.{SFits, toZ, ofZ}
 use mir.Facts.{toZ-ofZ, toZ-pos}
-use Rattle.lattice.specs.Lattice.{at}
 
 -- a number is that of its bits
 pub kept : (z : ℤ) → mag z < 2 ^ 31 → toZ w32 (ofZ w32 z) ≡ z
 kept z h = toZ-ofZ (record { sfits = h })
-
--- a place is that of its coordinates' bits
-pub kept-place : {x y z : ℤ} → SFits w32 x → SFits w32 y → SFits w32 z → at (toZ w32 (ofZ w32 x)) (toZ w32 (ofZ w32 y)) (toZ w32 (ofZ w32 z)) ≡ at x y z
-kept-place f g h = λ i. at (toZ-ofZ f i) (toZ-ofZ g i) (toZ-ofZ h i)
 
 -- a negative number, raised by half the range
 pub down : (z : ℤ) → SFits w32 z → ltZ z (pos 0) ≡ true → toZ w32 (ofZ w32 z) -ℤ negsuc 2147483647 ≡ pos (2147483648 - suc (mag z))

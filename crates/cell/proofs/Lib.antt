@@ -1,8 +1,5 @@
 mod Answers
-mod Climb
 mod Complement
 mod Filled
 pub mod OneAnswer
 pub mod Points
-mod Stored
-mod Words

@@ -55,6 +55,8 @@ use Rattle.cell.proofs.cell_between.Kinds as cell-between-kinds
 use Rattle.cell.proofs.cell_between.Reads as cell-between
 use Rattle.cell.proofs.manhattan_distance_to.Kinds as manhattan-distance-to-kinds
 use Rattle.cell.proofs.manhattan_distance_to.Reads as manhattan-distance-to
+use Rattle.cell.proofs.distance_to.Kinds as distance-to-kinds
+use Rattle.cell.proofs.distance_to.Reads as distance-to
 use Rattle.cell.proofs.to_bytes.Kinds as to-bytes-kinds
 use Rattle.cell.proofs.to_bytes.Reads as to-bytes
 use Rattle.cell.proofs.read_at.Kinds as read-at-kinds
@@ -140,6 +142,9 @@ cell-between-one κs a z z′ e e′ p q = p ∙ sym q
 
 pub manhattan-distance-to-one : OneAnswer 0 manhattan-distance-to-kinds.ps manhattan-distance-to-kinds.r manhattan-distance-to.Post
 manhattan-distance-to-one κs a z z′ e e′ p q = p ∙ sym q
+
+pub distance-to-one : OneAnswer 0 distance-to-kinds.ps distance-to-kinds.r distance-to.Post
+distance-to-one κs a z z′ e e′ p q = p ∙ sym q
 
 pub to-bytes-one : OneAnswer 0 to-bytes-kinds.ps to-bytes-kinds.r to-bytes.Post
 to-bytes-one κs a z z′ e e′ p q = p ∙ sym q

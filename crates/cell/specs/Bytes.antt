@@ -1,8 +1,8 @@
 -- A cell's 16 bytes, big-endian as the survey file and the lists of cells have them: "`from_bytes` takes all 16-byte values". Definitions only. Assumes nothing.
-use mathlib.Core.Bool.{cond}
-use mathlib.Core.List.{List, _++_}
+use mathlib.Core.Bool.{Bool, true, false, cond}
+use mathlib.Core.List.{List, [], _∷_, _++_}
 use Prim.Native.Nat.{ℕ, _+_}
-use lib.Dec.{eqb}
+use lib.Dec.{eqb, ltb}
 use lib.ListN.{length}
 use Rattle.refusal.specs.declared.Cell.{Cell}
 use Rattle.refusal.specs.declared.Refusal.the-variants.{BadList}
@@ -26,3 +26,9 @@ cellStored l p c = stored big 8 (stored big 8 l p (c .high)) (p + 8) (c .low)
 unfoldable pub fromBytesOf : List ℕ → CellAnswer
 unfolding cellAt
 fromBytesOf l = cond (eqb (length l) 16) (Is (cellAt l 0)) (Refused BadList)
+
+-- the lexicographic order: the first bytes that differ decide, and a list's beginnings come before it
+unfoldable pub bytesLess : List ℕ → List ℕ → Bool
+bytesLess l [] = false
+bytesLess [] (b ∷ m) = true
+bytesLess (a ∷ l) (b ∷ m) = cond (eqb a b) (bytesLess l m) (ltb a b)

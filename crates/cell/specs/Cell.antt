@@ -2,7 +2,7 @@
 -- and the order. A cell is two words, `high` and `low`; what the coordinates do is `lattice`'s. Definitions only. Assumes nothing.
 use mathlib.Core.Bool.{Bool, true, false, cond, _&&_}
 use mathlib.Core.List.{List, map}
-use Prim.Native.Nat.{ℕ, zero, suc, _+_, _-_, _*_, _/_, _%_, _^_}
+use Prim.Native.Nat.{ℕ, zero, suc, _+_, _-_, _*_, _/_, _%_}
 use lib.Dec.{eqb, leb, ltb}
 use lib.IntN.{ℤ}
 use lib.ListN.{replicate}
@@ -12,7 +12,6 @@ use Rattle.refusal.specs.declared.Coord.{Coord}
 use Rattle.refusal.specs.declared.Cell.{Cell}
 use Rattle.refusal.specs.declared.Refusal.{Refusal}
 use Rattle.refusal.specs.declared.Refusal.the-variants.{NoParent, NoChildren, CoordOverflow}
-use Rattle.refusal.specs.declared.Outcome.{Outcome}
 use Rattle.refusal.specs.declared.Outcome.the-variants as outcome
 use Rattle.refusal.specs.Table.{rawOf}
 use Rattle.lattice.specs.declared.Parity.{Parity}
@@ -24,6 +23,8 @@ use Rattle.lattice.specs.declared.CoordAnswer.the-variants as coord
 use Rattle.lattice.specs.declared.NumberAnswer.{NumberAnswer}
 use Rattle.lattice.specs.Lattice as lattice
 use Rattle.lattice.specs.Lattice.{at, parityOf, around, below, hasNeighborRoom, hasChildRoom, manhattan, manhattanOf}
+use Rattle.distance.specs.declared.DistanceAnswer.{DistanceAnswer}
+use Rattle.distance.specs.Distance.{distanceOf}
 use Rattle.cell.specs.declared.CellAnswer.{CellAnswer}
 use Rattle.cell.specs.declared.CellAnswer.the-variants.{Is, Refused}
 use Rattle.cell.specs.declared.Order.{Order}
@@ -207,3 +208,6 @@ betweenOf a b =
 
 abbrev pub manhattanCells : Cell → Cell → NumberAnswer
 manhattanCells a b = manhattanOf (coordOf a) (coordOf b)
+
+abbrev pub distanceCells : Cell → Cell → DistanceAnswer
+distanceCells a b = distanceOf (coordOf a) (coordOf b)

@@ -8,14 +8,14 @@ use Prim.Native.Nat.{ℕ, _+_, _*_, _/_, _%_, _^_, _<_}
 use native.Mathlib.Nat.{div-add-mod'}
 use native.Mathlib.Omega.{arith}
 use lib.Dec.{eqb}
-use borrow.Author.Tests.{eqb-true, eqb-false, ne-eqb}
+use borrow.Author.Tests.{eqb-true, eqb-false, ne-eqb, ltb-true, ltb-false, lt-ltb, le-ltb, eq-eqb}
 use mir.Syntax.{w32}
 use mir.Val.{Fits, toZ, ofZ}
-use mir.Facts.{fits-ofZ, toZ-ofZ, ofZ-toZ, sfits-toZ}
+use mir.Facts.{fits-ofZ, ofZ-toZ, sfits-toZ}
 use Rattle.refusal.specs.declared.Coord.{Coord}
 use Rattle.refusal.specs.declared.Cell.{Cell}
 use Rattle.refusal.specs.declared.Refusal.{Refusal}
-use Rattle.refusal.specs.declared.Refusal.the-variants.{NoParent, NoChildren, CoordOverflow}
+use Rattle.refusal.specs.declared.Refusal.the-variants.{NoChildren, CoordOverflow}
 use Rattle.refusal.specs.declared.Outcome.the-variants as outcome
 use Rattle.refusal.specs.Table.{rawOf}
 use Rattle.lattice.specs.declared.Parity.{Parity}
@@ -30,10 +30,10 @@ use Rattle.lattice.specs.Laws.{parity-point, neighbor-symmetric, room-fits, chi
 use Rattle.lattice.specs.Fitting.{Fitting}
 use Rattle.lattice.specs.Middle.{middle}
 use Rattle.lattice.specs.Signs.{both}
-use Rattle.cell.specs.declared.CellAnswer.the-variants.{Is, Refused}
+use Rattle.cell.specs.declared.CellAnswer.the-variants.{Is}
 use Rattle.cell.specs.declared.Children.{Children}
-use Rattle.cell.specs.Cell.{frameOf, resolutionOf, exponentOf, flagsOf, reservedOf, coordOf, packed, newBy, newOf, isPlain, plainAt, plainTwin, sameCell, nearCells, childCells, noChildren, childrenIn, childrenBy, childrenOf, parentAt, parentOf}
-use Rattle.cell.specs.Bits.{lowWord, low-parts, high-parts, low-whole, high-of, low-of}
+use Rattle.cell.specs.Cell.{frameOf, resolutionOf, exponentOf, flagsOf, reservedOf, coordOf, packed, newBy, newOf, isPlain, plainAt, plainTwin, sameCell, lessCell, nearCells, childCells, noChildren, childrenIn, childrenBy, childrenOf, parentAt, parentOf}
+use Rattle.cell.specs.Bits.{lowWord, low-parts, low-word, low-whole, high-parts, kept-place, same-digits}
 
 -- a cell as the code holds it: two words of 64 bits
 pub record Words (c : Cell) : Type 0 where
@@ -56,16 +56,16 @@ pub record ReadsBack (frame resolution : ℕ) (c : Coord) (exponent flags : ℕ)
 pub fields-packed : (frame resolution : ℕ) (c : Coord) (exponent flags : ℕ) → frame < 256 → resolution < 256 → flags < 256 → Fitting c → ReadsBack frame resolution c exponent flags (packed frame resolution c exponent flags)
 unfolding packed coordOf
 fields-packed frame resolution c exponent flags hf hr hg fits =
-    let l = low-parts (ofZ w32 (c .x)) flags exponent resolution frame (fits-ofZ (fits .in-x) .fits) hg hr hf in
+    let l = low-parts (ofZ w32 (c .x)) flags exponent resolution frame hg hr hf in
     let h = high-parts (ofZ w32 (c .z)) (ofZ w32 (c .y)) (fits-ofZ (fits .in-z) .fits) (fits-ofZ (fits .in-y) .fits) in
     record {
       frame-back = l .is-frame;
       resolution-back = l .is-resolution;
-      coord-back = λ i. at ((ap (toZ w32) (l .is-x) ∙ toZ-ofZ (fits .in-x)) i) ((ap (toZ w32) (h .is-y) ∙ toZ-ofZ (fits .in-y)) i) ((ap (toZ w32) (h .is-z) ∙ toZ-ofZ (fits .in-z)) i);
+      coord-back = (λ i. at (toZ w32 (l .is-x i)) (toZ w32 (h .is-y i)) (toZ w32 (h .is-z i))) ∙ kept-place (fits .in-x) (fits .in-y) (fits .in-z);
       exponent-back = l .is-exponent;
       flags-back = l .is-flags;
       reserved-back = l .is-reserved;
-      words = record { high-word = h .is-word; low-word = l .is-word };
+      words = record { high-word = h .is-word; low-word = low-word (ofZ w32 (c .x)) flags exponent resolution frame (fits-ofZ (fits .in-x) .fits) hg hr hf };
     }
 
 x-bits : (c : Cell) → Words c → Fits w32 (c .low / 4294967296)
@@ -125,11 +125,15 @@ plain-is-plain frame resolution c hf hr fits =
 
 -- ---- children and their parent
 
+-- above the coarsest resolution the place decides
+pub parent-by-place : (c : Cell) → (resolutionOf c ≡ 0 → ⊥) → parentOf c ≡ parentAt (lattice.parentOf (coordOf c)) c
+unfolding parentOf
+parent-by-place c h = rw (ne-eqb (resolutionOf c) 0 h)
+
 -- the parent of a cell, by its fields
 parent-by : (k : Cell) (frame resolution : ℕ) (d p : Coord) → frameOf k ≡ frame → resolutionOf k ≡ resolution + 1 → coordOf k ≡ d → lattice.parentOf d ≡ coord.At p → parentOf k ≡ Is (plainAt frame resolution p)
-unfolding parentOf
 parent-by k frame resolution d p f r e h =
-    ap (λ (t : Bool). cond t (Refused NoParent) (parentAt (lattice.parentOf (coordOf k)) k)) (ne-eqb (resolutionOf k) 0 (λ z. omega arith))
+    parent-by-place k (λ z. omega arith)
     ∙ ap (λ (a : CoordAnswer). parentAt a k) (ap lattice.parentOf e ∙ h)
     ∙ ap₂ (λ (f r : ℕ). Is (plainAt f r p)) f (omega arith)
 
@@ -209,10 +213,31 @@ neighborhood c n wc wn pc pn rc rn = (near-back c n wc pc rc, near-back n c wn p
 pub same-cell : (a b : Cell) → Words a → Words b → sameCell a b ≡ true → a ≡ b
 unfolding rawOf
 same-cell a b v w e =
-    let r = eqb-true (rawOf a) (rawOf b) e in
-    let high : a .high ≡ b .high = sym (high-of (a .high) (a .low) (v .low-word)) ∙ ap (λ (n : ℕ). n / 2 ^ 64) r ∙ high-of (b .high) (b .low) (w .low-word) in
-    let low : a .low ≡ b .low = sym (low-of (a .high) (a .low) (v .low-word)) ∙ ap (λ (n : ℕ). n % 2 ^ 64) r ∙ low-of (b .high) (b .low) (w .low-word) in
-    λ i. record { high = high i; low = low i }
+    let r = same-digits (2 ^ 64) (a .high) (a .low) (b .high) (b .low) (v .low-word) (w .low-word) (eqb-true (rawOf a) (rawOf b) e) in
+    λ i. record { high = r .0 i; low = r .1 i }
+
+-- no cell is below itself
+pub less-irreflexive : (a : Cell) → lessCell a a ≡ false
+less-irreflexive a = le-ltb (rawOf a) (rawOf a) (omega arith)
+
+pub less-transitive : (a b c : Cell) → lessCell a b ≡ true → lessCell b c ≡ true → lessCell a c ≡ true
+less-transitive a b c e f = lt-ltb (rawOf a) (rawOf c) (omega (arith, ltb-true (rawOf a) (rawOf b) e, ltb-true (rawOf b) (rawOf c) f))
+
+-- how two cells stand to each other: one way, and not the other two
+pub data Standing (a b : Cell) : Type 0 where
+  is-below : lessCell a b ≡ true → (a ≡ b → ⊥) → lessCell b a ≡ false → Standing a b
+  is-equal : lessCell a b ≡ false → a ≡ b → lessCell b a ≡ false → Standing a b
+  is-above : lessCell a b ≡ false → (a ≡ b → ⊥) → lessCell b a ≡ true → Standing a b
+
+-- of two cells one is below the other, unless they are the same
+pub less-total : (a b : Cell) → Words a → Words b → Standing a b
+less-total a b v w = standing (lessCell a b) (lessCell b a) refl refl
+  where
+    standing : (s t : Bool) → lessCell a b ≡ s → lessCell b a ≡ t → Standing a b
+    standing true true e f = absurd (omega (arith, ltb-true (rawOf a) (rawOf b) e, ltb-true (rawOf b) (rawOf a) f))
+    standing true false e f = is-below e (λ h. omega (arith, ltb-true (rawOf a) (rawOf b) e, ap rawOf h)) f
+    standing false true e f = is-above e (λ h. omega (arith, ltb-true (rawOf b) (rawOf a) f, ap rawOf h)) f
+    standing false false e f = is-equal e (same-cell a b v w (eq-eqb (rawOf a) (rawOf b) (omega (arith, ltb-false (rawOf a) (rawOf b) e, ltb-false (rawOf b) (rawOf a) f)))) f
 
 -- ---- between two cells
 

@@ -1,14 +1,15 @@
 // The packed cell: 128 bits that name a frame, a resolution and a place of the lattice, with an exponent and flags.
 ghost use mathlib.Core.Path.{_≡_};
 ghost use mathlib.Core.List.{map};
-ghost use Rattle.lattice.specs.Lattice.{at};
 ghost use Prim.Native.Nat.{_+_, _≤_};
 ghost use lib.ListN.{length};
+ghost use Rattle.lattice.specs.Lattice.{at};
 ghost use Rattle.cell.specs.Bytes.{cellAt, cellBytes, cellStored, fromBytesOf};
-ghost use Rattle.cell.specs.Cell.{frameOf, resolutionOf, exponentOf, flagsOf, reservedOf, xOf, yOf, zOf, coordOf, packed, newOf, latticeCoordOf, isPlain, sameCell, lessCell, orderOf, plainAt, noNeighbors, neighborsOf, noChildren, childrenOf, parentOf, ancestorOf, alike, betweenOf, manhattanCells};
+ghost use Rattle.cell.specs.Cell.{frameOf, resolutionOf, exponentOf, flagsOf, reservedOf, xOf, yOf, zOf, coordOf, packed, newOf, latticeCoordOf, isPlain, sameCell, lessCell, orderOf, plainAt, noNeighbors, neighborsOf, noChildren, childrenOf, parentOf, ancestorOf, alike, betweenOf, manhattanCells, distanceCells};
 
 mod twos;
 
+use distance::DistanceAnswer;
 use lattice::CoordAnswer;
 use lattice::NumberAnswer;
 use lattice::Parity;
@@ -18,6 +19,7 @@ use refusal::Coord;
 use refusal::Outcome;
 use refusal::Refusal;
 
+// A cell, or why there is none.
 pub enum CellAnswer {
     Is(Cell),
     Refused(Refusal),
@@ -69,6 +71,7 @@ pub fn exponent(c: Cell) -> u8
     (c.low / 65536 % 16) as u8
 }
 
+// What is marked of the cell, a bit each.
 pub fn flags(c: Cell) -> u8
     ensures { λ r. ⌜ r ≡ flagsOf c ⌝ }
 {
@@ -82,6 +85,7 @@ pub fn reserved(c: Cell) -> u8
     (c.low / 268435456 % 16) as u8
 }
 
+// The coordinates, in two's complement.
 pub fn x(c: Cell) -> i32
     ensures { λ r. ⌜ r ≡ xOf c ⌝ }
 {
@@ -133,7 +137,6 @@ fn plain(frame: u8, resolution: u8, c: Coord) -> Cell
     packed(frame, resolution, c, 0, 0)
 }
 
-// The cell of these fields, refused where the place is no lattice point.
 fn new_at(frame: u8, resolution: u8, c: Coord, exponent: u8, flags: u8) -> CellAnswer
     ensures { λ r. ⌜ r ≡ newOf frame resolution c exponent flags ⌝ }
 {
@@ -144,18 +147,21 @@ fn new_at(frame: u8, resolution: u8, c: Coord, exponent: u8, flags: u8) -> CellA
     }
 }
 
+// The cell of these fields, refused where the place is no lattice point.
 pub fn new(frame: u8, resolution: u8, x: i32, y: i32, z: i32, exponent: u8, flags: u8) -> CellAnswer
     ensures { λ r. ⌜ r ≡ newOf frame resolution (at x y z) exponent flags ⌝ }
 {
     new_at(frame, resolution, Coord { x, y, z }, exponent, flags)
 }
 
+// The plain cell at three coordinates, refused where they are no lattice point.
 pub fn from_coords(frame: u8, resolution: u8, x: i32, y: i32, z: i32) -> CellAnswer
     ensures { λ r. ⌜ r ≡ newOf frame resolution (at x y z) 0 0 ⌝ }
 {
     new(frame, resolution, x, y, z, 0, 0)
 }
 
+// The plain cell at a place, refused where it is no lattice point.
 pub fn from_lattice_coord(frame: u8, resolution: u8, c: Coord) -> CellAnswer
     ensures { λ r. ⌜ r ≡ newOf frame resolution c 0 0 ⌝ }
 {
@@ -206,6 +212,7 @@ pub fn less(a: Cell, b: Cell) -> bool
     a.high < b.high
 }
 
+// The order of the 128 bits as one number.
 pub fn compare(a: Cell, b: Cell) -> Order
     ensures { λ r. ⌜ r ≡ orderOf a b ⌝ }
 {
@@ -242,7 +249,7 @@ fn no_neighbors(r: Refusal) -> Neighbors
     }
 }
 
-// Parity first, then room.
+// The 14 plain cells around a cell, of its frame and resolution. Parity first, then room.
 pub fn get_neighbors(c: Cell) -> Neighbors
     ensures { λ r. ⌜ r ≡ neighborsOf c ⌝ }
 {
@@ -286,7 +293,7 @@ fn no_children(r: Refusal) -> Children
     }
 }
 
-// The finest resolution has none; then parity, then room.
+// The 8 plain cells below a cell, one resolution finer. The finest has none; then parity, then room.
 pub fn get_children(c: Cell) -> Children
     ensures { λ r. ⌜ r ≡ childrenOf c ⌝ }
 {
@@ -312,7 +319,7 @@ pub fn get_children(c: Cell) -> Children
     }
 }
 
-// The coarsest resolution has none; then parity.
+// The plain cell above a cell, one resolution coarser. The coarsest has none; then parity.
 pub fn parent(c: Cell) -> CellAnswer
     ensures { λ r. ⌜ r ≡ parentOf c ⌝ }
 {
@@ -327,7 +334,7 @@ pub fn parent(c: Cell) -> CellAnswer
     }
 }
 
-// The parent of the parent, until the target's resolution is reached.
+// The parent of the parent, until the target's resolution is reached. A finer target is refused; a cell's own gives the cell.
 pub fn ancestor(c: Cell, target: u8) -> CellAnswer
     ensures { λ r. ⌜ r ≡ ancestorOf c target ⌝ }
 {
@@ -345,6 +352,7 @@ pub fn ancestor(c: Cell, target: u8) -> CellAnswer
     }
 }
 
+// Two points of one parity.
 fn alike(p: Parity, q: Parity) -> bool
     ensures { λ r. ⌜ r ≡ alike p q ⌝ }
 {
@@ -390,11 +398,18 @@ pub fn cell_between(a: Cell, b: Cell) -> Between
     }
 }
 
-// That of the places.
+// The Manhattan distance of two cells is that of their places.
 pub fn manhattan_distance_to(a: Cell, b: Cell) -> NumberAnswer
     ensures { λ r. ⌜ r ≡ manhattanCells a b ⌝ }
 {
     lattice::manhattan_distance_to(coord(a), coord(b))
+}
+
+// The Euclidean distance of two cells is that of their places.
+pub fn distance_to(a: Cell, b: Cell) -> DistanceAnswer
+    ensures { λ r. ⌜ r ≡ distanceCells a b ⌝ }
+{
+    distance::distance_to(coord(a), coord(b))
 }
 
 // The cell that the 16 bytes at `at` make.
@@ -417,6 +432,7 @@ pub fn write_at(s: &mut [u8], at: usize, c: Cell)
     words::write64_big(s, at + 8, c.low);
 }
 
+// A cell's 16 bytes, the highest first.
 pub fn to_bytes(c: Cell) -> [u8; 16]
     ensures { λ r. ⌜ r ≡ cellBytes c ⌝ }
 {
@@ -425,7 +441,7 @@ pub fn to_bytes(c: Cell) -> [u8; 16]
     bytes
 }
 
-// Takes any 16 bytes.
+// The cell of 16 bytes, whatever they are.
 pub fn from_bytes(s: &[u8]) -> CellAnswer
     ensures { λ r. ⌜ r ≡ fromBytesOf (now (s .entry)) ⌝ }
 {

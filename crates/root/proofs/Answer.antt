@@ -1,9 +1,9 @@
 -- The answer of `whole_root`, from the root at 54 digits. Assumes nothing.
-use mathlib.Core.Path.{_≡_, refl, sym, ap, _∙_, subst}
-use Prim.Native.Nat.{ℕ, zero, suc, _+_, _-_, _*_, _/_, _%_, _^_, _≤_, _<_}
+use mathlib.Core.Path.{_≡_, sym, ap, _∙_, subst}
+use Prim.Native.Nat.{ℕ, suc, _+_, _*_, _/_, _%_, _^_, _≤_, _<_}
 use native.Mathlib.Nat.{mod-eq-of-lt, le-trans, le-of-eq, lt-of-le-of-lt}
 use native.Mathlib.Omega.{arith}
-use lib.Dec.{T, lit≤, lit<}
+use lib.Dec.{lit≤, lit<}
 use lib.IntN.{pos}
 use lib.Pow.{pow-add, pow-mono}
 use lib.Count.{leadingZeros, leading-top}
@@ -11,9 +11,9 @@ use mathlib.Core.Bool.{false}
 use lib.Ieee.{binary64, div, ofInt, round}
 use Rattle.root.specs.Root.{rootWhole}
 use Rattle.root.specs.Isqrt.{IsRoot}
-use Rattle.root.proofs.Turn.{half-pos, root-is}
+use Rattle.root.proofs.Scaled.{half-pos, root-is}
 use Rattle.root.proofs.Divide.{div-ints}
-use Rattle.root.proofs.Steps.{moved, turn-of, moved-square, power-of, q-least, q-most}
+use Rattle.root.proofs.Steps.{moved, scaled-of, moved-square, power-of, q-least, q-most}
 
 module _ (n : ℕ) (first : 1 ≤ n) (last : n < 18446744073709551616) where
   pub s-le : leadingZeros 64 n / 2 ≤ 31
@@ -62,7 +62,7 @@ module _ (n : ℕ) (first : 1 ≤ n) (last : n < 18446744073709551616) where
     answer =
         let s = leadingZeros 64 n / 2 in
         let d = 4194304 * 2 ^ s in
-        let t = turn-of n q d (22 + s) (power-of s) first (subst (λ (x : ℕ). IsRoot x q) (moved-square n s) r-m) most in
+        let t = scaled-of n q d (22 + s) (power-of s) first (subst (λ (x : ℕ). IsRoot x q) (moved-square n s) r-m) most in
         let h : d / 2 ≡ 2097152 * 2 ^ s = omega arith in
         let big = least in
         let small = most in

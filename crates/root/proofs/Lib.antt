@@ -1,4 +1,4 @@
-pub mod Turn
+pub mod Scaled
 pub mod Divide
 pub mod Whole
 pub mod Steps

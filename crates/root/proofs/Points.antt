@@ -1,6 +1,6 @@
 -- Points of the root that the documents name, each by computation. Assumes nothing.
 use mathlib.Core.Path.{_≡_, refl}
-use lib.Ieee.{Float, binary64, ofBits, toBits}
+use lib.Ieee.{ofBits, toBits}
 use Rattle.refusal.specs.declared.Refusal.the-variants.{OutOfRange}
 use Rattle.root.specs.declared.RootBits.{RootBits}
 use Rattle.root.specs.Root.{rootBitsOf}

@@ -1,15 +1,15 @@
 -- The steps of `floor_root` and of `whole_root` as facts on numbers. Assumes nothing.
-use mathlib.Core.Path.{_≡_, refl, sym, ap, _∙_, subst}
-use Prim.Native.Nat.{ℕ, zero, suc, _+_, _-_, _*_, _/_, _%_, _^_, _≤_, _<_}
-use native.Mathlib.Nat.{mul-suc, suc-mul, add-mul, mul-add, mul-assoc, mul-comm, mul-left-comm, mul-mul-mul-comm, mul-one, mul-le-mul, mul-le-mul-left, mul-le-mul-right, mul-lt-mul-of-pos-right, mul-pos, le-of-mul-le-mul-right, le-trans, le-of-eq, le-of-lt, lt-of-lt-of-le, lt-of-le-of-lt, lt-of-not-le, not-le-of-lt, div-add-mod', mod-lt, div-mul-le-self, div-lt-iff-lt-mul, mod-eq-of-lt, pow-suc}
+use mathlib.Core.Path.{_≡_, sym, ap, _∙_, subst}
+use Prim.Native.Nat.{ℕ, zero, suc, _+_, _-_, _*_, _/_, _^_, _≤_, _<_}
+use native.Mathlib.Nat.{add-mul, mul-add, mul-assoc, mul-comm, mul-mul-mul-comm, mul-le-mul, mul-le-mul-right, mul-lt-mul-of-pos-right, mul-pos, le-of-mul-le-mul-right, le-trans, le-of-eq, lt-of-lt-of-le, lt-of-le-of-lt, div-add-mod', mod-lt, div-mul-le-self}
 use native.Mathlib.Numerals.{add-one}
 use native.Mathlib.Omega.{arith}
-use lib.Dec.{T, lit≤, lit<}
-use lib.Pow.{pow-add, pow-pos, pow-mono, shl-lt, shl-exact}
+use lib.Dec.{lit≤}
+use lib.Pow.{pow-add, pow-pos, pow-mono, shl-lt}
 use lib.Count.{leadingZeros, leading-top}
 use Rattle.root.specs.Root.{isqrt}
-use Rattle.root.specs.Isqrt.{IsRoot, sq-suc, sq-two, root-le, isqrt-is}
-use Rattle.root.proofs.Turn.{Turn}
+use Rattle.root.specs.Isqrt.{IsRoot, sq-suc, root-le, isqrt-is, sq-lt-of}
+use Rattle.root.proofs.Scaled.{Scaled}
 
 -- ---- the guess mended
 pub pos-of-sq : (n p : ℕ) → n < p * p → 1 ≤ p
@@ -66,9 +66,7 @@ pub record Fine (m p t u : ℕ) : Type 0 where
   pub sum : t * (p * 2) + u ≡ (m - p * p) * 4194304
   pub rest : u < p * 2
   pub small : t ≤ 4194304
-
-pub left-le : (m p : ℕ) → IsRoot m p → m - p * p ≤ p * 2
-left-le m p r = let sq = sq-suc p in omega (arith, r .high)
+  pub left : m - p * p ≤ p * 2
 
 pub fine : (m p : ℕ) → 4611686018427387904 ≤ m → m < 18446744073709551616 → IsRoot m p → Fine m p ((m - p * p) * 4194304 / (p * 2)) ((m - p * p) * 4194304 - (m - p * p) * 4194304 / (p * 2) * (p * 2))
 fine m p l h r =
@@ -89,6 +87,7 @@ fine m p l h r =
       sum = omega arith;
       rest = omega arith;
       small = le-of-mul-le-mul-right (le-trans (div-mul-le-self a b) bound) pos;
+      left = left;
     }
 
 module _ {m p t u : ℕ} (f : Fine m p t u) where
@@ -117,30 +116,19 @@ module _ (n q d : ℕ) (j : ℕ) (power : d ≡ 2 ^ j) (first : 1 ≤ n) (r : Is
   d-pos : 0 < d
   d-pos = subst (λ (x : ℕ). 0 < x) (sym power) (pow-pos j)
 
-  pub turn-of : Turn n (isqrt n) q (n * (d * d) - q * q) d
-  turn-of =
+  pub scaled-of : Scaled n q d
+  scaled-of =
       let p = isqrt n in
       let i = isqrt-is n in
-      let e = sq-suc q in
-      let pp : 1 ≤ p = root-le n 1 p first (i .high) in
-      let above : p * d ≤ q = root-le (n * (d * d)) (p * d) q (le-trans (le-of-eq (scaled-square p d)) (mul-le-mul-right (d * d) (i .low))) (r .high) in
-      let below : q < suc p * d = sq-lt-of q (suc p * d) (lt-of-le-of-lt (r .low) (lt-of-lt-of-le (mul-lt-mul-of-pos-right (i .high) (mul-pos d-pos d-pos)) (le-of-eq (sym (scaled-square (suc p) d))))) in
-      let one : 1 * d ≤ p * d = mul-le-mul-right d pp in
       record {
         j = j;
         power = power;
-        sum = omega (arith, r .low);
-        rest = omega (arith, r .low, r .high);
-        above = above;
-        below = below;
-        root = i;
-        positive = pp;
-        room = omega arith;
+        root = r;
+        above = root-le (n * (d * d)) (p * d) q (le-trans (le-of-eq (scaled-square p d)) (mul-le-mul-right (d * d) (i .low))) (r .high);
+        below = sq-lt-of q (suc p * d) (lt-of-le-of-lt (r .low) (lt-of-lt-of-le (mul-lt-mul-of-pos-right (i .high) (mul-pos d-pos d-pos)) (le-of-eq (sym (scaled-square (suc p) d)))));
+        positive = root-le n 1 p first (i .high);
         top = top;
       }
-    where
-      sq-lt-of : (a b : ℕ) → a * a < b * b → a < b
-      sq-lt-of a b h = lt-of-not-le (λ (g : b ≤ a). not-le-of-lt h (mul-le-mul g g))
 
 -- n moved up by 2 s digits and then by 44 more is n times the square of d = 2 ^ (s + 22)
 pub moved-square : (n s : ℕ) → n * 2 ^ (s * 2) * 17592186044416 ≡ n * (4194304 * 2 ^ s * (4194304 * 2 ^ s))

@@ -1,18 +1,15 @@
 -- What the tests of `square_root` say of x, and what `rootOf` is there. `one`, `big` and `nought` are the constants 1, 2 ^ 64 and +0. Assumes nothing.
 use mathlib.Core.Path.{_≡_, refl, sym, ap, _∙_, subst}
-use Prim.Native.Nat.{ℕ, zero, suc, _+_, _-_, _*_, _/_, _%_, _^_, _≤_, _<_, min}
-use native.Mathlib.Nat.{mul-one, one-mul, mul-pos, mul-comm, mul-assoc, mul-zero, zero-mul, zero-mod, mod-one, mod-le, mod-lt, mod-eq-of-lt, mul-mod-left, mul-div-cancel, div-add-mod', le-trans, le-of-eq, lt-of-lt-of-le, lt-of-le-of-lt, le-of-lt, lt-of-not-le, not-le-of-lt, le-div-iff-mul-le, div-lt-iff-lt-mul, zero-lt-suc, lt-irrefl, mul-le-mul-right, add-zero, sub-add-cancel, div-le-self, mul-right-comm, le-antisymm, le-of-mul-le-mul-right}
+use Prim.Native.Nat.{ℕ, suc, _+_, _*_, _/_, _%_, _^_, _≤_, _<_, min}
+use native.Mathlib.Nat.{mul-one, one-mul, zero-mul, mod-one, mod-eq-of-lt, div-add-mod', le-of-eq, lt-of-le-of-lt, le-of-lt, not-le-of-lt, le-div-iff-mul-le, div-lt-iff-lt-mul, mul-le-mul-right, div-le-self, mul-right-comm, le-antisymm, le-of-mul-le-mul-right}
 use native.Mathlib.Omega.{arith}
-use mathlib.Core.Bool.{Bool, true, false, not, cond, _&&_, _||_, true≢false, false≢true}
+use mathlib.Core.Bool.{Bool, true, false, not, _&&_, _||_, true≢false, false≢true}
 use lib.IntN.{ℤ, pos, negsuc}
-use lib.Dec.{T, leb, ltb, eqb, leb→le, le→leb, ltb→lt, lt→ltb, eqb→eq, nleb→lt, nltb→le, lit<, lit≤}
-use lib.Pow.{pow-add, pow-pos, pow-mono, pow-lt, shl-lt}
-use lib.Ieee.{Float, nan, inf, fin, binary64, up, down, round, rem, eq, lt, le, fits, toUnsigned, toBits, isNan, ofInt}
-use lib.Ieee.Fits.{up-pos, down-pos, and-i, and-l, and-r, eq→eqb}
-use lib.Ieee.Exact.{HasValue, round-exact}
+use lib.Dec.{T, leb, ltb, eqb, leb→le, le→leb, ltb→lt, lt→ltb, eqb→eq, nleb→lt, nltb→le}
+use lib.Ieee.{Float, nan, inf, fin, binary64, up, down, round, eq, lt, le, fits, toUnsigned, toBits, isNan, ofInt}
+use lib.Ieee.Fits.{down-pos, and-i, and-l, and-r, eq→eqb}
+use lib.Ieee.Exact.{HasValue}
 use lib.Ieee.Back.{whole-unique, round-whole}
-use lib.Ieee.Positive.{first-pos}
-use Rattle.root.specs.declared.Root.{Root}
 use Rattle.refusal.specs.declared.Refusal.the-variants.{OutOfRange}
 use Rattle.root.specs.declared.Root.the-variants.{Of, Refused}
 use Rattle.root.specs.Root.{rootOf, rootWhole}

@@ -1,8 +1,8 @@
 -- The size of a root, for callers that go on calculating with it. Assumes nothing.
-use mathlib.Core.Path.{_≡_, refl, sym, ap, _∙_, subst}
+use mathlib.Core.Path.{_≡_, refl, sym}
 use mathlib.Core.Bool.{false}
-use Prim.Native.Nat.{ℕ, suc, _+_, _-_, _*_, _≤_, _<_}
-use native.Mathlib.Nat.{mul-one, one-mul, mul-assoc, mul-comm, mul-left-comm, mul-le-mul-left, mul-le-mul-right, mul-mul-mul-comm, lt-of-lt-of-le, lt-of-le-of-lt, le-of-eq, le-trans}
+use Prim.Native.Nat.{ℕ, suc, _-_, _*_, _≤_, _<_}
+use native.Mathlib.Nat.{mul-one, one-mul, mul-le-mul-right, mul-mul-mul-comm, le-of-eq, le-trans}
 use native.Mathlib.Omega.{arith}
 use lib.IntN.{pos}
 use lib.Dec.{T, lit<}

@@ -1,20 +1,18 @@
 -- The root of n lies strictly on the near side of the middle between `rootWhole n` and any other f64: the laws behind `Nearest.root-nearest`.
 -- Of an f64 y above `rootWhole n` the root is below the middle of the two, and of one below it above the middle, each squared. Assumes nothing.
-use mathlib.Core.Path.{_≡_, refl, sym, ap, _∙_, subst}
+use mathlib.Core.Path.{_≡_, sym, ap, _∙_, subst}
 use mathlib.Core.Logic.{_⊎_, inl, inr}
 use mathlib.Core.Bool.{Bool, true, false, not, _&&_}
-use Prim.Native.Nat.{ℕ, zero, suc, _+_, _-_, _*_, _/_, _%_, _^_, _≤_, _<_}
-use native.Mathlib.Nat.{suc-mul, add-mul, mul-one, one-mul, mul-assoc, mul-comm, mul-left-comm, mul-right-comm, mul-mul-mul-comm, mul-le-mul, mul-le-mul-left, mul-le-mul-right, mul-lt-mul-of-pos-right, lt-of-mul-lt-mul-right, le-of-mul-le-mul-right, mul-pos, le-trans, le-of-eq, le-refl, lt-of-lt-of-le, lt-of-le-of-lt, le-of-lt, le-of-suc-le-suc, lt-of-not-le, not-le-of-lt, eq-or-lt-of-le, pow-suc, sub-add-cancel, zero-lt-suc}
+use Prim.Native.Nat.{ℕ, zero, suc, _+_, _-_, _*_, _%_, _^_, _≤_, _<_}
+use native.Mathlib.Nat.{suc-mul, add-mul, mul-one, mul-assoc, mul-comm, mul-left-comm, mul-right-comm, mul-mul-mul-comm, mul-le-mul-left, mul-le-mul-right, mul-lt-mul-of-pos-right, lt-of-mul-lt-mul-right, mul-pos, le-trans, le-of-eq, lt-of-lt-of-le, lt-of-le-of-lt, eq-or-lt-of-le, pow-suc, sub-add-cancel}
 use native.Mathlib.Omega.{arith}
 use lib.IntN.{ℤ, pos, negsuc}
-use lib.Dec.{T, leb, ltb, eqb, ltb→lt, leb→le, nleb→lt, lit<, lit≤}
-use lib.Pow.{pow-add, pow-pos, pow-mono, pow-lt, shl-lt}
-use lib.Ieee.{Float, nan, inf, fin, binary64, up, down, size, round, fits}
-use lib.Ieee.Digits.{size-lt, size-le, size-reaches}
+use lib.Dec.{T, leb, ltb, eqb, ltb→lt, leb→le, nleb→lt, lit<}
+use lib.Pow.{pow-add, pow-pos}
+use lib.Ieee.{fin, binary64, up, down, fits}
 use lib.Ieee.Fits.{and-l, and-r, down-pos}
-use lib.Ieee.Exact.{HasValue, round-exact}
 use lib.Ieee.Positive.{num, den, den-pos, value→cross}
-use Rattle.root.specs.Root.{isqrt, shift, signif, rootWhole}
+use Rattle.root.specs.Root.{shift, signif, rootWhole}
 use Rattle.root.specs.Isqrt.{sq-le, sq-lt}
 use Rattle.root.specs.Significand.{unit, many, over, under, least, value}
 

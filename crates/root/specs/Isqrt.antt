@@ -1,8 +1,8 @@
 -- The integer square root: `isqrt n` is the largest s with s * s ≤ n, and the only such. Assumes nothing.
-use mathlib.Core.Path.{_≡_, refl, sym, ap, _∙_, subst}
+use mathlib.Core.Path.{_≡_, refl, sym, ap, _∙_}
 use mathlib.Core.Bool.{Bool, true, false, not, cond}
-use Prim.Native.Nat.{ℕ, zero, suc, _+_, _-_, _*_, _/_, _%_, _^_, _≤_, _<_}
-use native.Mathlib.Nat.{mul-suc, suc-mul, mul-assoc, mul-comm, mul-left-comm, mul-le-mul, le-trans, lt-of-lt-of-le, le-of-lt, not-le-of-lt, lt-of-not-le, le-antisymm, le-of-suc-le-suc, pow-suc, pow-le-pow-left, zero-lt-suc}
+use Prim.Native.Nat.{ℕ, zero, suc, _+_, _*_, _/_, _^_, _≤_, _<_}
+use native.Mathlib.Nat.{mul-suc, suc-mul, mul-assoc, mul-comm, mul-left-comm, mul-le-mul, le-trans, lt-of-lt-of-le, not-le-of-lt, lt-of-not-le, le-antisymm, le-of-suc-le-suc, pow-suc, pow-le-pow-left}
 use native.Mathlib.Omega.{arith}
 use lib.Pow.{pow-mono}
 use lib.Dec.{T, leb, leb→le, nleb→lt, lit≤}

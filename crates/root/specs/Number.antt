@@ -1,13 +1,11 @@
 -- An answer of `rootOf` is a number, so that a caller may take its bits. Assumes nothing.
-use mathlib.Core.Path.{_≡_, refl, sym, ap, _∙_, subst}
+use mathlib.Core.Path.{_≡_, subst}
 use mathlib.Core.Bool.{Bool, true, false, not, cond, _&&_}
 use Prim.Native.Nat.{ℕ, zero, suc, _+_, _-_, _*_, _/_, _%_, _^_}
 use native.Mathlib.Omega.{arith}
-use lib.IntN.{ℤ}
 use lib.Dec.{T, leb, ltb, eqb}
 use lib.Ieee.{Float, nan, inf, fin, Format, prec, emax, low, up, down, odd, units, round, isNan, binary64}
 use lib.Ieee.Fits.{round-is}
-use Rattle.root.specs.declared.Root.{Root}
 use Rattle.refusal.specs.declared.Refusal.the-variants.{OutOfRange}
 use Rattle.root.specs.declared.Root.the-variants.{Of, Refused}
 use Rattle.root.specs.Root.{rootOf, rootWhole, signif, shift}

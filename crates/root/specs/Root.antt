@@ -1,7 +1,7 @@
 -- Module 1 of the scope document, "Square root (new, f64). Correctly rounded, to nearest even, for +0.0 and whole-valued f64 from 1 to 2^64; anything else is OutOfRange.
 -- Meaning over whole numbers." What `square_root` answers, as definitions that compute with whole numbers only. Definitions only. Assumes nothing.
 use Prim.Native.Nat.{ℕ, zero, suc, _+_, _-_, _*_, _/_, _%_, _^_}
-use mathlib.Core.Bool.{Bool, true, false, cond, _&&_}
+use mathlib.Core.Bool.{true, false, cond, _&&_}
 use lib.Dec.{leb, eqb}
 use lib.Ieee.{Float, nan, inf, fin, binary64, up, down, size, round, ofBits, toBits}
 use Rattle.refusal.specs.declared.Refusal.the-variants.{OutOfRange}

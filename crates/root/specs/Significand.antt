@@ -1,19 +1,16 @@
--- `rootWhole n` is M / P exactly, for M = `signif n` and P = `unit n`, a power of two (`value`), M has 53 digits (`many`, `few`), and the root of n lies strictly
+-- `rootWhole n` is M / P exactly, for M = `signif n` and P = `unit n`, a power of two (`value`), M has 53 digits or is 2 ^ 53 (`many`, `few`), and the root of n lies strictly
 -- within half a unit of it: (2 M - 1)² < 4 n P² < (2 M + 1)² (`over`, `under`). For n from 1 to 2 ^ 64. Assumes nothing.
 use mathlib.Core.Path.{_≡_, refl, sym, ap, _∙_, subst}
 use mathlib.Core.Logic.{_⊎_, inl, inr}
-use mathlib.Core.Bool.{Bool, true, false, not, _&&_}
-use Prim.Native.Nat.{ℕ, zero, suc, _+_, _-_, _*_, _/_, _%_, _^_, _≤_, _<_}
-use native.Mathlib.Nat.{suc-mul, add-mul, mul-one, one-mul, mul-assoc, mul-comm, mul-left-comm, mul-right-comm, mul-mul-mul-comm, mul-le-mul, mul-le-mul-left, mul-le-mul-right, mul-lt-mul-of-pos-right, lt-of-mul-lt-mul-right, le-of-mul-le-mul-right, mul-pos, le-trans, le-of-eq, le-refl, lt-of-lt-of-le, lt-of-le-of-lt, le-of-lt, le-of-suc-le-suc, lt-of-not-le, not-le-of-lt, eq-or-lt-of-le, pow-suc, sub-add-cancel, zero-lt-suc}
+use mathlib.Core.Bool.{false}
+use Prim.Native.Nat.{ℕ, suc, _+_, _-_, _*_, _/_, _^_, _≤_, _<_}
+use native.Mathlib.Nat.{one-mul, mul-assoc, mul-comm, mul-left-comm, mul-mul-mul-comm, mul-le-mul-right, mul-lt-mul-of-pos-right, mul-pos, le-trans, le-of-eq, lt-of-lt-of-le, lt-of-le-of-lt, eq-or-lt-of-le, pow-suc, sub-add-cancel}
 use native.Mathlib.Omega.{arith}
-use lib.IntN.{ℤ, pos, negsuc}
-use lib.Dec.{T, leb, ltb, eqb, ltb→lt, leb→le, nleb→lt, lit<, lit≤}
+use lib.Dec.{lit<}
 use lib.Pow.{pow-add, pow-pos, pow-mono, pow-lt, shl-lt}
-use lib.Ieee.{Float, nan, inf, fin, binary64, up, down, size, round, fits}
+use lib.Ieee.{binary64, size, round}
 use lib.Ieee.Digits.{size-lt, size-le, size-reaches}
-use lib.Ieee.Fits.{and-l, and-r, down-pos}
 use lib.Ieee.Exact.{HasValue, round-exact}
-use lib.Ieee.Positive.{num, den, den-pos}
 use Rattle.root.specs.Root.{isqrt, shift, signif, rootWhole}
 use Rattle.root.specs.Isqrt.{IsRoot, sq-suc, sq-two, root-le, isqrt-is, sq-le, sq-lt-of, four-pow, exponent-lt}
 

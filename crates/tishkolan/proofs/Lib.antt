@@ -5,3 +5,4 @@ pub mod Given
 pub mod Found
 pub mod OneAnswer
 pub mod OneAnswerCells
+pub mod KnownPoints

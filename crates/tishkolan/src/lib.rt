@@ -1,4 +1,4 @@
 // The C face: every public call, exported on numbers and byte slices. include/tishkolan.h declares what stands here.
-mod cells;
-mod points;
-mod told;
+pub mod cells;
+pub mod points;
+pub mod told;

@@ -3,8 +3,10 @@ use borrow.Author.Needs.{needs}
 use native.Mathlib.Omega.{arith}
 use mathlib.Core.Path.{_≡_, sym, _∙_}
 use Prim.Native.Nat.{ℕ, _-_, _<_}
-use Rattle.cell.specs.Cell.{resolutionOf}
-use Rattle.cell.proofs.Climb.{finer, reached, stopped, step, nearer}
+use Rattle.refusal.specs.declared.Cell.{Cell}
+use Rattle.cell.specs.declared.CellAnswer.the-variants.{Is}
+use Rattle.cell.specs.Cell.{resolutionOf, parentOf}
+use Rattle.cell.specs.Ancestors.{parent-resolution, ancestor-finer, ancestor-own, ancestor-refused, ancestor-parent}
 use borrow.Fn.Kinds.{In}
 use borrow.Fn.PlainCycle.{Measures, is, falls, and}
 use Rattle.cell.proofs.ancestor.Reads as ancestor
@@ -14,6 +16,9 @@ use Rattle.cell.proofs.parent.Reads as parent-reads
 use Rattle.cell.proofs.resolution.Reads as resolution-reads
 use Rattle.cell.proofs.+ancestor.{statement}
 use Rattle.cell.proofs.+ancestor.Tie.{close}
+
+nearer : (c p : Cell) (target : ℕ) {t : ℕ} → target < resolutionOf c → parentOf c ≡ Is p → resolutionOf c - target ≡ t → resolutionOf p - target < t
+nearer c p target h e m = let l = parent-resolution c p e in omega arith
 
 abbrev μ-ancestor : Measures 0 ancestor-kinds.ps ℕ
 μ-ancestor κs a = resolutionOf (a .0) - a .1 .0
@@ -46,7 +51,7 @@ ancestor-returns : (t : ℕ) → ancestor-lts.Need-returns (
 ancestor-returns t c =
     let s = c .before .before .args in
     let l = c .before .resolution .ensures in
-    finer (s .c) (s .target) (omega arith)
+    sym (ancestor-finer (s .c) (s .target) (omega arith))
 
 ancestor-returns-2 : (t : ℕ) → ancestor-lts.Need-returns-2 (
   resolution-reads.Asked,
@@ -59,7 +64,7 @@ ancestor-returns-2 : (t : ℕ) → ancestor-lts.Need-returns-2 (
 ancestor-returns-2 t c =
     let s = c .before .before .before .args in
     let l = c .before .before .resolution .ensures in
-    reached (s .c) (s .target) (sym l ∙ c .if2 .taken)
+    sym (ancestor-own (s .c) (s .target) (sym l ∙ c .if2 .taken))
 
 ancestor-parent-requires : (t : ℕ) → ancestor-lts.Need-parent-requires (
   resolution-reads.Asked,
@@ -119,7 +124,7 @@ ancestor-returns-3 t c =
     let s = up .before .before .before .before .args in
     let l = up .before .before .before .resolution .ensures in
     let less = up .before .if2 .left in
-    stopped (s .c) (s .target) (omega (arith, l, less)) _ (sym (up .parent .ensures) ∙ c .before .up .given .1)
+    sym (ancestor-refused (s .c) (s .target) (omega (arith, l, less)) _ (sym (up .parent .ensures) ∙ c .before .up .given .1))
 
 ancestor-returns-4 : (t : ℕ) → ancestor-lts.Need-returns-4 (
   resolution-reads.Asked,
@@ -135,7 +140,7 @@ ancestor-returns-4 t c =
     let l = up .before .before .before .resolution .ensures in
     let less = up .before .if2 .left in
     c .ancestor .ensures
-    ∙ step (s .c) _ (s .target) (omega (arith, l, less)) (sym (up .parent .ensures) ∙ c .before .before .up2 .given .1)
+    ∙ sym (ancestor-parent (s .c) _ (s .target) (omega (arith, l, less)) (sym (up .parent .ensures) ∙ c .before .before .up2 .given .1))
 
 pub +ancestor-spec : {M : Type 1} → statement M
 +ancestor-spec = close μ-ancestor λ t. ancestor-lts.spec (

@@ -1,9 +1,10 @@
 -- Each answer by the length.
 use borrow.Author.Needs.{needs}
-use borrow.Author.Tests.{eq-eqb, ne-eqb}
+use borrow.Author.Tests.{ne-eqb}
 use mathlib.Core.Path.{_∙_, sym, ap}
 use Rattle.cell.specs.declared.CellAnswer.the-variants.{Is}
-use Rattle.cell.specs.Bytes.{cellAt, fromBytesOf}
+use Rattle.cell.specs.Bytes.{fromBytesOf}
+use Rattle.cell.specs.BytesLaws.{sixteen-bytes}
 use Rattle.cell.proofs.from_bytes.Statement.{statement}
 use Rattle.cell.proofs.from_bytes.Tie as tie
 
@@ -11,8 +12,7 @@ read-at-requires : tie.Need-read-at-requires
 read-at-requires c κs = search needs
 
 returns : tie.Need-returns
-unfolding fromBytesOf
-returns c = rw (eq-eqb _ 16 (c .before .if1 .taken)) (ap Is (c .read-at .ensures))
+returns c = ap Is (c .read-at .ensures) ∙ sym (sixteen-bytes _ (c .before .if1 .taken))
 
 returns-2 : tie.Need-returns-2
 unfolding fromBytesOf

@@ -3,7 +3,7 @@ use borrow.Author.Needs.{needs}
 use mathlib.Core.Path.{_∙_, ap}
 use Rattle.refusal.specs.declared.Coord.{Coord}
 use Rattle.cell.specs.Cell.{newOf}
-use Rattle.cell.proofs.Complement.{kept-place}
+use Rattle.cell.specs.Bits.{kept-place}
 use Rattle.cell.proofs.from_coords.Statement.{statement}
 use Rattle.cell.proofs.from_coords.Tie as tie
 

@@ -4,7 +4,7 @@ use mathlib.Core.Path.{_∙_, ap}
 use Prim.Native.Nat.{ℕ, _+_, _*_, _^_}
 use lib.Dec.{ltb}
 use Rattle.refusal.specs.Table.{rawOf}
-use Rattle.cell.proofs.Words.{less-low, less-high}
+use Rattle.cell.specs.Bits.{less-low, less-high}
 use Rattle.cell.proofs.less.Statement.{statement}
 use Rattle.cell.proofs.less.Tie as tie
 

@@ -1,6 +1,5 @@
 -- Each answer by the tests that led to it: the resolution, then what the place's parent is.
 use borrow.Author.Needs.{needs}
-use borrow.Author.Tests.{ne-eqb}
 use mathlib.Core.Path.{_≡_, sym, _∙_, ap}
 use Prim.Native.Nat.{ℕ, _-_}
 use Rattle.refusal.specs.declared.Coord.{Coord}
@@ -9,14 +8,14 @@ use Rattle.lattice.specs.declared.CoordAnswer.{CoordAnswer}
 use Rattle.lattice.specs.Lattice as lattice
 use Rattle.cell.specs.declared.CellAnswer.the-variants.{Is}
 use Rattle.cell.specs.Cell.{resolutionOf, coordOf, plainAt, parentAt, parentOf}
+use Rattle.cell.specs.Laws.{parent-by-place}
 use Rattle.cell.proofs.parent.Statement.{statement}
 use Rattle.cell.proofs.parent.Tie as tie
 
 by-place : (c : Cell) {level : ℕ} → level ≡ resolutionOf c → (level ≡ 0 → ⊥) → {d : Coord} → d ≡ coordOf c → {a b : CoordAnswer} → a ≡ lattice.parentOf d → a ≡ b → parentAt b c ≡ parentOf c
-unfolding parentOf
 by-place c l fine place up known =
-    rw (ne-eqb (resolutionOf c) 0 (λ e. fine (l ∙ e)))
-    (ap (λ (p : CoordAnswer). parentAt p c) (sym known ∙ up ∙ ap lattice.parentOf place))
+    ap (λ (p : CoordAnswer). parentAt p c) (sym known ∙ up ∙ ap lattice.parentOf place)
+    ∙ sym (parent-by-place c (λ e. fine (l ∙ e)))
 
 resolution-requires : tie.Need-resolution-requires
 resolution-requires c κs = search needs

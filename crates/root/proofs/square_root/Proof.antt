@@ -1,20 +1,16 @@
 -- `root::square_root` meets its contract: each way out by what its tests say of x. A constant is its bit pattern in MIR, which `ofBits` computes. Assumes nothing.
-use mathlib.Core.Path.{_≡_, refl, sym, ap, _∙_, subst}
+use mathlib.Core.Path.{_≡_, sym, ap, _∙_, subst}
 use Prim.Native.Nat.{ℕ, _≤_, _<_}
 use native.Mathlib.Omega.{arith}
-use lib.Dec.{T, le→leb}
+use lib.Dec.{le→leb}
 use lib.IntN.{pos}
 use mathlib.Core.Bool.{true, false}
-use lib.Ieee.{Float, binary64, ofBits, fits, inFloat, eq, ofInt}
+use lib.Ieee.{Float, binary64, ofBits, inFloat, eq, ofInt}
 use Rattle.root.specs.declared.Root.the-variants.{Of}
 use Rattle.root.specs.Root.{rootOf, rootWhole}
 use Rattle.root.proofs.Whole.{so, above-minus-one, cast-pos, root-below, none-below, root-above, is-big, too-big, zero-no-nan, is-nought, minus-nought, too-small}
 use Rattle.root.proofs.square_root.Statement.{statement}
 use Rattle.root.proofs.square_root.Tie as tie
-use Rattle.root.proofs.square_root.Reads as reads
-use Rattle.root.proofs.square_root.Lts as lts
-use Rattle.root.proofs.whole_root.Reads as whole-root-reads
-use Rattle.std.proofs.num.truncating_f64_to_u64.Reads as truncating-f64-to-u64-reads
 
 truncating-f64-to-u64-requires : tie.Need-truncating-f64-to-u64-requires
 unfolding ofBits

@@ -1,10 +1,8 @@
 -- `bitsOf` of what `square_root` answers. A NaN's pattern is tested first, and an answer is never a NaN (`of-number`), so both turns between f64 and bits are defined.
-use mathlib.Core.Path.{_≡_, refl, sym, ap, _∙_, subst}
-use mathlib.Core.Bool.{Bool, true, not}
-use Prim.Native.Nat.{ℕ}
+use mathlib.Core.Path.{_≡_, refl, sym, ap, _∙_}
+use mathlib.Core.Bool.{true}
 use borrow.Author.Needs.{needs}
-use lib.Dec.{T}
-use lib.Ieee.{Float, nan, inf, fin, binary64, ofBits, isNan, nanBits}
+use lib.Ieee.{Float, nan, inf, fin, binary64, ofBits, isNan}
 use lib.Ieee.Bits.{nanBits-is}
 use Rattle.root.specs.Root.{rootOf, rootBitsOf, bitsOf}
 use Rattle.root.specs.Number.{of-number}

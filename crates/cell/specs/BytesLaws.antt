@@ -1,0 +1,135 @@
+-- What follows from the definitions of a cell's bytes: a cell and its 16 bytes make each other again, alone and within a longer list, and cells are ordered as their bytes
+-- are. Assumes nothing.
+use mathlib.Core.Path.{_≡_, refl, sym, ap, ap₂, _∙_}
+use mathlib.Core.Bool.{Bool, cond}
+use mathlib.Core.List.{List, [], _∷_, _++_, append-assoc, append-nil}
+use Prim.Native.Nat.{ℕ, suc, _+_, _*_, _^_, _≤_}
+use native.Mathlib.Nat.{mul-comm}
+use native.Mathlib.Omega.{arith}
+use borrow.Author.Tests.{eq-eqb, le-ltb}
+use lib.Dec.{eqb, ltb}
+use lib.ListN.{length, take, drop, replicate, length-append, drop-of-length-le}
+use lib.Seq.{take-all, take-at, take-add, drop-drop, length-take-le}
+use Rattle.refusal.specs.declared.Cell.{Cell}
+use Rattle.refusal.specs.Table.{rawOf}
+use Rattle.words.specs.Word.{big, number, ordered, bytesOf, word, stored, Bytes, Apart}
+use Rattle.words.specs.Laws.{length-bytesOf, length-stored, stored-parts, drop-stored, word-stored, word-stored-apart, bytesOf-part, word-drop, word-lt, word-split-big}
+use Rattle.cell.specs.declared.CellAnswer.the-variants.{Is}
+use Rattle.cell.specs.Bytes.{cellAt, cellBytes, cellStored, fromBytesOf, bytesLess}
+use Rattle.cell.specs.Cell.{lessCell}
+use Rattle.cell.specs.Laws.{Words}
+use Rattle.cell.specs.Bits.{less-digits}
+
+pub length-cellBytes : (c : Cell) → length (cellBytes c) ≡ 16
+unfolding cellBytes
+length-cellBytes c = simp (length-append, length-bytesOf)
+
+-- ---- a stored cell
+
+pub length-cell-stored : (l : List ℕ) (p : ℕ) (c : Cell) → length (cellStored l p c) ≡ length l
+unfolding cellStored
+length-cell-stored l p c = length-stored big 8 (stored big 8 l p (c .high)) (p + 8) (c .low) ∙ length-stored big 8 l p (c .high)
+
+-- the list in three parts
+pub cell-stored-parts : (l : List ℕ) (p : ℕ) (c : Cell) → p + 16 ≤ length l → cellStored l p c ≡ take p l ++ (cellBytes c ++ drop (p + 16) l)
+unfolding cellStored cellBytes
+cell-stored-parts l p c h =
+    let high = bytesOf big 8 (c .high) in
+    let low = bytesOf big 8 (c .low) in
+    let first = stored big 8 l p (c .high) in
+    let long : length first ≡ length l = length-stored big 8 l p (c .high) in
+    let size : length (take p l ++ high) ≡ p + 8 = rw (length-append, length-bytesOf, length-take-le p l (omega arith)) in
+    let front : take (p + 8) first ≡ take p l ++ high = ap (take (p + 8)) (stored-parts big 8 l p (c .high) (omega arith)) ∙ take-at (take p l ++ high) (drop (p + 8) l) (p + 8) size in
+    let back : drop (p + 8 + 8) first ≡ drop (p + 8 + 8) l = sym (drop-drop 8 (p + 8) first) ∙ ap (drop 8) (drop-stored big 8 l p (c .high)) ∙ drop-drop 8 (p + 8) l in
+    let past : p + 8 + 8 ≡ p + 16 = omega arith in
+    stored-parts big 8 first (p + 8) (c .low) (omega arith)
+    ∙ (λ i. front i ++ low ++ back i)
+    ∙ ap (λ (n : ℕ). take p l ++ high ++ low ++ drop n l) past
+    ∙ simp append-assoc
+
+-- in 16 bytes nothing else is left
+pub cell-stored-whole : (l : List ℕ) (c : Cell) → length l ≡ 16 → cellStored l 0 c ≡ cellBytes c
+cell-stored-whole l c e = cell-stored-parts l 0 c (omega arith) ∙ rw (drop-of-length-le l {i = 16} (omega arith), append-nil)
+
+-- what is stored is read
+pub cell-stored : (l : List ℕ) (p : ℕ) (c : Cell) → p + 16 ≤ length l → Words c → cellAt (cellStored l p c) p ≡ c
+unfolding cellStored cellAt
+cell-stored l p c h w =
+    let first = stored big 8 l p (c .high) in
+    let long : length first ≡ length l = length-stored big 8 l p (c .high) in
+    let high : word big 8 (stored big 8 first (p + 8) (c .low)) p ≡ c .high = word-stored-apart big big 8 8 first (p + 8) (c .low) p (omega arith) ∙ word-stored big 8 l p (c .high) (omega arith) (omega arith) in
+    let low : word big 8 (stored big 8 first (p + 8) (c .low)) (p + 8) ≡ c .low = word-stored big 8 first (p + 8) (c .low) (omega arith) (omega arith) in
+    λ i. record { high = high i; low = low i }
+
+-- a cell elsewhere is not changed
+pub cell-stored-apart : (l : List ℕ) (p : ℕ) (c : Cell) (q : ℕ) → Apart p 16 q 16 → cellAt (cellStored l p c) q ≡ cellAt l q
+unfolding cellStored cellAt
+cell-stored-apart l p c q h = λ i. record { high = kept q (omega arith) (omega arith) i; low = kept (q + 8) (omega arith) (omega arith) i }
+  where
+    kept : (r : ℕ) → Apart p 8 r 8 → Apart (p + 8) 8 r 8 → word big 8 (stored big 8 (stored big 8 l p (c .high)) (p + 8) (c .low)) r ≡ word big 8 l r
+    kept r f g = word-stored-apart big big 8 8 (stored big 8 l p (c .high)) (p + 8) (c .low) r g ∙ word-stored-apart big big 8 8 l p (c .high) r f
+
+-- ---- a cell and its 16 bytes
+
+-- "`from_bytes` takes all 16-byte values"
+pub sixteen-bytes : (l : List ℕ) → length l ≡ 16 → fromBytesOf l ≡ Is (cellAt l 0)
+unfolding fromBytesOf
+sixteen-bytes l e = rw (eq-eqb (length l) 16 e)
+
+-- read after write
+pub bytes-read-back : (c : Cell) → Words c → fromBytesOf (cellBytes c) ≡ Is c
+bytes-read-back c w =
+    let zeros : List ℕ = replicate 16 0 in
+    sixteen-bytes (cellBytes c) (length-cellBytes c)
+    ∙ ap (λ (l : List ℕ). Is (cellAt l 0)) (sym (cell-stored-whole zeros c refl))
+    ∙ ap Is (cell-stored zeros 0 c (omega arith) w)
+
+-- the bytes of the cell at p are those that stand there
+pub cell-bytes-part : (l : List ℕ) (p : ℕ) → p + 16 ≤ length l → Bytes l → cellBytes (cellAt l p) ≡ take 16 (drop p l)
+unfolding cellAt cellBytes
+cell-bytes-part l p h b =
+    (λ i. bytesOf-part big 8 l p (omega arith) b i ++ bytesOf-part big 8 l (p + 8) (omega arith) b i)
+    ∙ ap (λ (m : List ℕ). take 8 (drop p l) ++ take 8 m) (sym (drop-drop 8 p l))
+    ∙ sym (take-add 8 8 (drop p l))
+
+-- write after read
+pub read-bytes-back : (l : List ℕ) → length l ≡ 16 → Bytes l → cellBytes (cellAt l 0) ≡ l
+read-bytes-back l e b = cell-bytes-part l 0 (omega arith) b ∙ take-all 16 l (omega arith)
+
+-- ---- the order
+
+first-byte : (a : ℕ) (l : List ℕ) → word big 1 (a ∷ l) 0 ≡ a
+unfolding word ordered number
+first-byte a l = omega arith
+
+word-cons : (n a : ℕ) (l : List ℕ) → length l ≡ n → word big (suc n) (a ∷ l) 0 ≡ a * 256 ^ n + word big n l 0
+word-cons n a l e =
+    let size : suc n ≡ 1 + n = omega arith in
+    ap (λ (k : ℕ). word big k (a ∷ l) 0) size
+    ∙ word-split-big 1 n (a ∷ l) 0 (omega arith)
+    ∙ ap₂ (λ (low high : ℕ). low + 256 ^ n * high) (sym (word-drop big n (a ∷ l) 1 0)) (first-byte a l)
+    ∙ omega (arith, mul-comm a (256 ^ n))
+
+words-ordered : (l m : List ℕ) → length m ≡ length l → Bytes l → Bytes m → ltb (word big (length l) l 0) (word big (length l) m 0) ≡ bytesLess l m
+unfolding bytesLess
+words-ordered [] [] e f g = le-ltb (word big 0 [] 0) (word big 0 [] 0) (omega arith)
+words-ordered [] (b ∷ m) e f g = absurd (omega arith)
+words-ordered (a ∷ l) [] e f g = absurd (omega arith)
+words-ordered (a ∷ l) (b ∷ m) e f g =
+    let n = length l in
+    let rest-l : Bytes l = λ i. f (suc i) in
+    let rest-m : Bytes m = λ i. g (suc i) in
+    ap₂ ltb (word-cons n a l refl) (word-cons n b m (omega arith))
+    ∙ less-digits (256 ^ n) a (word big n l 0) b (word big n m 0) (word-lt big n l 0 rest-l) (word-lt big n m 0 rest-m)
+    ∙ ap (λ (t : Bool). cond (eqb a b) t (ltb a b)) (words-ordered l m (omega arith) rest-l rest-m)
+
+raw-word : (l : List ℕ) → length l ≡ 16 → rawOf (cellAt l 0) ≡ word big 16 l 0
+unfolding rawOf cellAt
+raw-word l e = omega (arith, word-split-big 8 8 l 0 (omega arith))
+
+-- cells are ordered as their bytes are
+pub order-bytes : (l m : List ℕ) → length l ≡ 16 → length m ≡ 16 → Bytes l → Bytes m → lessCell (cellAt l 0) (cellAt m 0) ≡ bytesLess l m
+order-bytes l m e f g h =
+    ap₂ ltb (raw-word l e) (raw-word m f)
+    ∙ ap (λ (n : ℕ). ltb (word big n l 0) (word big n m 0)) (sym e)
+    ∙ words-ordered l m (f ∙ sym e) g h

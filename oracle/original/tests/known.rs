@@ -1,0 +1,87 @@
+//! What the Rust as published does where the port refuses: a release, overflow checks off. The
+//! examples of docs/DIFFERENCES.md. Run by tests/run.
+
+#![allow(deprecated)]
+
+use original::id::CellID;
+use original::lattice::{Lattice, LatticeCoord};
+use original::path::{astar_with_limit, EuclideanCost};
+use std::panic::catch_unwind;
+
+fn coord(x: i32, y: i32, z: i32) -> LatticeCoord {
+    LatticeCoord::new(x, y, z).unwrap()
+}
+
+fn plain(x: i32, y: i32, z: i32) -> CellID {
+    CellID::from_coords(0, 0, x, y, z).unwrap()
+}
+
+#[test]
+fn neighbors_wrap() {
+    let neighbors = plain(2147483646, 0, 0).neighbors();
+    assert_eq!(neighbors.len(), 14);
+    assert!(neighbors.contains(&plain(-2147483648, 0, 0)));
+}
+
+#[test]
+fn children_wrap() {
+    let children = |cell: CellID| {
+        let children = cell.children().unwrap();
+        let place = |child: &CellID| (child.x(), child.y(), child.z());
+        children.iter().map(place).collect::<Vec<_>>()
+    };
+    assert_eq!(children(plain(1073741823, 1, 1))[1], (-2147483648, 2, 2));
+    assert_eq!(children(plain(1073741824, 0, 0))[0], (-2147483648, 0, 0));
+    assert_eq!(children(plain(0, -1073741824, 0))[6], (1, 2147483647, 1));
+}
+
+#[test]
+fn distances_wrap() {
+    // 2147483648 is its own opposite; a larger difference comes out small.
+    let (low, zero) = (coord(-2147483648, 0, 0), coord(0, 0, 0));
+    assert_eq!(zero.distance_to(&low), 2147483648.0);
+    assert_eq!(low.distance_to(&coord(2147483646, 0, 0)), 2.0);
+    assert_eq!(low.manhattan_distance_to(&zero), -2147483648);
+    assert_eq!(
+        coord(2147483646, 2, 0).manhattan_distance_to(&zero),
+        -2147483648
+    );
+}
+
+#[test]
+fn cell_between_wraps_to_nothing() {
+    let (here, far) = (plain(0, 0, 0), plain(-2147483648, 0, 0));
+    assert_eq!(here.cell_between(far), None);
+}
+
+#[test]
+fn mixed_parity_is_a_panic() {
+    let mixed = CellID::from_bytes((1u128 << 64).to_be_bytes());
+    assert_eq!((mixed.x(), mixed.y(), mixed.z()), (0, 1, 0));
+    assert!(catch_unwind(|| mixed.neighbors()).is_err());
+    assert!(catch_unwind(|| mixed.cell_between(plain(0, 0, 0))).is_err());
+}
+
+#[test]
+fn there_is_no_cell_between() {
+    assert_eq!(plain(0, 0, 0).cell_between(plain(2, 0, 0)), None);
+}
+
+#[test]
+fn unchecked_points_are_answered() {
+    let mixed = LatticeCoord::new_unchecked(0, 1, 0);
+    assert_eq!(mixed.to_physical(), (0.0, 1.0, 0.0));
+    assert_eq!(mixed.distance_to(&coord(0, 0, 0)), 1.0);
+    assert_eq!(mixed.manhattan_distance_to(&coord(0, 0, 0)), 1);
+    assert_eq!(Lattice::get_neighbors(&mixed).len(), 14);
+    assert_eq!(Lattice::get_children(&mixed).len(), 8);
+    let parent = Lattice::get_parent(&mixed);
+    assert_eq!((parent.x, parent.y, parent.z), (0, 0, 0));
+}
+
+#[test]
+fn ties_fall_as_the_heap_has_them() {
+    let limited = |limit| astar_with_limit(plain(0, 0, 0), plain(2, 2, 0), &EuclideanCost, limit);
+    assert!(limited(3).is_err());
+    assert!(limited(4).is_ok());
+}

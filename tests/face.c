@@ -1,0 +1,513 @@
+/* The C face, call by call: what each answers and what each refuses.
+ * Every CHECK is one claim; the program prints how many hold, exit status 1 where one does not. */
+#include <stdio.h>
+
+#include "../include/tishkolan.h"
+
+static int passed, failed;
+
+#define CHECK(claim)                                                        \
+    do {                                                                    \
+        if (claim) {                                                        \
+            passed++;                                                       \
+        } else {                                                            \
+            failed++;                                                       \
+            printf("%s:%d: does not hold: %s\n", __FILE__, __LINE__, #claim); \
+        }                                                                   \
+    } while (0)
+
+/* ---- what a call says beside its answer */
+
+static bool is(tishkolan_refusal said, uint32_t number, uint32_t room, int32_t x, int32_t y, int32_t z)
+{
+    return said.number == number && said.room == room && said.x == x && said.y == y && said.z == z;
+}
+
+static bool answered(tishkolan_refusal said)
+{
+    return is(said, TISHKOLAN_ANSWERED, 0, 0, 0, 0);
+}
+
+/* Refused with a number that carries nothing. */
+static bool refused(tishkolan_refusal said, uint32_t number)
+{
+    return is(said, number, 0, 0, 0, 0);
+}
+
+static bool mixed(tishkolan_refusal said, int32_t x, int32_t y, int32_t z)
+{
+    return is(said, TISHKOLAN_INVALID_PARITY, 0, x, y, z);
+}
+
+/* The output's room is room 3. */
+static bool no_room(tishkolan_refusal said)
+{
+    return is(said, TISHKOLAN_NO_ROOM, 3, 0, 0, 0);
+}
+
+/* ---- buffers: filled with a pattern first, so that an untouched byte can be told */
+
+enum { PATTERN = 0xA5 };
+
+static bool untouched(const void *from, size_t bytes)
+{
+    const uint8_t *byte = from;
+
+    while (bytes > 0 && *byte == PATTERN)
+        byte++, bytes--;
+    return bytes == 0;
+}
+
+static void fill(void *buffer, size_t bytes)
+{
+    memset(buffer, PATTERN, bytes);
+}
+
+/* ---- cells used below. Each is z, y, x, then reserved, flags, exponent, resolution, frame. */
+
+#define CELL TISHKOLAN_CELL_BYTES
+
+typedef struct {
+    uint8_t bytes[CELL];
+} cell;
+
+/* A plain cell of frame 7. */
+static cell at(uint8_t resolution, int32_t x, int32_t y, int32_t z)
+{
+    cell made;
+    const int32_t word[3] = {z, y, x};
+
+    for (int place = 0; place < 12; place++)
+        made.bytes[place] = (uint8_t)((uint32_t)word[place / 4] >> (24 - 8 * (place % 4)));
+    made.bytes[12] = 0;
+    made.bytes[13] = 0;
+    made.bytes[14] = resolution;
+    made.bytes[15] = 7;
+    return made;
+}
+
+/* The same with reserved, flags and exponent set. */
+static cell marked(cell plain)
+{
+    plain.bytes[12] = 0x3A;
+    plain.bytes[13] = 0x5C;
+    return plain;
+}
+
+static bool same(const uint8_t *bytes, cell expected)
+{
+    return memcmp(bytes, expected.bytes, CELL) == 0;
+}
+
+/* ---- square root */
+
+static void square_root(void)
+{
+    tishkolan_bits_answer root = tishkolan_square_root(tishkolan_bits_of(3.0));
+    CHECK(answered(root.refusal) && root.bits == 0x3FFBB67AE8584CAA);
+    root = tishkolan_square_root(tishkolan_bits_of(0.0));
+    CHECK(answered(root.refusal) && root.bits == 0);
+    root = tishkolan_square_root(tishkolan_bits_of(18446744073709551616.0)); /* 2^64 */
+    CHECK(answered(root.refusal) && tishkolan_double_of(root.bits) == 4294967296.0);
+
+    root = tishkolan_square_root(tishkolan_bits_of(-0.0));
+    CHECK(refused(root.refusal, TISHKOLAN_OUT_OF_RANGE) && root.bits == 0);
+    root = tishkolan_square_root(tishkolan_bits_of(2.5));
+    CHECK(refused(root.refusal, TISHKOLAN_OUT_OF_RANGE) && root.bits == 0);
+    root = tishkolan_square_root(tishkolan_bits_of(18446744073709555712.0)); /* the next double */
+    CHECK(refused(root.refusal, TISHKOLAN_OUT_OF_RANGE) && root.bits == 0);
+    root = tishkolan_square_root(0x7FF8000000000001); /* a NaN */
+    CHECK(refused(root.refusal, TISHKOLAN_OUT_OF_RANGE) && root.bits == 0);
+}
+
+/* ---- lattice */
+
+static void parity(void)
+{
+    tishkolan_number_answer parity = tishkolan_parity(4, -2, 0);
+    CHECK(answered(parity.refusal) && parity.value == 0);
+    parity = tishkolan_parity(INT32_MAX, -1, 1);
+    CHECK(answered(parity.refusal) && parity.value == 1);
+    parity = tishkolan_parity(0, 1, 0);
+    CHECK(mixed(parity.refusal, 0, 1, 0) && parity.value == 0);
+
+    parity = tishkolan_opposite(0);
+    CHECK(answered(parity.refusal) && parity.value == 1);
+    parity = tishkolan_opposite(1);
+    CHECK(answered(parity.refusal) && parity.value == 0);
+    parity = tishkolan_opposite(2);
+    CHECK(refused(parity.refusal, TISHKOLAN_OUT_OF_RANGE) && parity.value == 0);
+    parity = tishkolan_opposite(UINT32_MAX);
+    CHECK(refused(parity.refusal, TISHKOLAN_OUT_OF_RANGE) && parity.value == 0);
+
+    CHECK(tishkolan_is_valid_lattice_point(-3, 1, -1));
+    CHECK(!tishkolan_is_valid_lattice_point(-3, 1, -2));
+}
+
+static void lattice_neighbors(void)
+{
+    static const int32_t expected[3 * TISHKOLAN_NEIGHBORS] = {
+        5, 3, 3,  5, 3, 1,  5, 1, 3,  5, 1, 1,  3, 3, 3,  3, 3, 1,  3, 1, 3,  3, 1, 1,
+        6, 2, 2,  2, 2, 2,  4, 4, 2,  4, 0, 2,  4, 2, 4,  4, 2, 0};
+    int32_t out[50];
+
+    fill(out, sizeof out);
+    CHECK(answered(tishkolan_lattice_neighbors(4, 2, 2, out, 42)));
+    CHECK(memcmp(out, expected, sizeof expected) == 0);
+    CHECK(untouched(out + 42, 8 * sizeof *out));
+
+    /* A longer buffer: its rest stays as it was. */
+    fill(out, sizeof out);
+    CHECK(answered(tishkolan_lattice_neighbors(4, 2, 2, out, 50)));
+    CHECK(memcmp(out, expected, sizeof expected) == 0);
+    CHECK(untouched(out + 42, 8 * sizeof *out));
+
+    fill(out, sizeof out);
+    CHECK(mixed(tishkolan_lattice_neighbors(4, 2, 1, out, 42), 4, 2, 1));
+    CHECK(refused(tishkolan_lattice_neighbors(2147483646, 0, 0, out, 42), TISHKOLAN_COORD_OVERFLOW));
+    CHECK(refused(tishkolan_lattice_neighbors(1, -2147483647, 1, out, 42), TISHKOLAN_COORD_OVERFLOW));
+    CHECK(no_room(tishkolan_lattice_neighbors(4, 2, 2, out, 41)));
+    CHECK(no_room(tishkolan_lattice_neighbors(4, 2, 2, NULL, 0)));
+    CHECK(untouched(out, sizeof out));
+}
+
+static void lattice_children(void)
+{
+    static const int32_t expected[3 * TISHKOLAN_CHILDREN] = {
+        2, 2, -2,  4, 2, -2,  2, 4, -2,  2, 2, 0,  3, 3, -1,  3, 3, -3,  3, 1, -1,  3, 1, -3};
+    int32_t out[30];
+
+    fill(out, sizeof out);
+    CHECK(answered(tishkolan_lattice_children(1, 1, -1, out, 30)));
+    CHECK(memcmp(out, expected, sizeof expected) == 0);
+    CHECK(untouched(out + 24, 6 * sizeof *out));
+    /* The least x has children; the least y and z are one above it. */
+    CHECK(answered(tishkolan_lattice_children(-1073741824, 0, 0, out, 24)));
+    CHECK(out[0] == INT32_MIN && out[3] == INT32_MIN + 2);
+
+    fill(out, sizeof out);
+    CHECK(mixed(tishkolan_lattice_children(1, 1, 0, out, 24), 1, 1, 0));
+    CHECK(refused(tishkolan_lattice_children(0, -1073741824, 0, out, 24), TISHKOLAN_COORD_OVERFLOW));
+    CHECK(refused(tishkolan_lattice_children(1073741823, 1, 1, out, 24), TISHKOLAN_COORD_OVERFLOW));
+    CHECK(no_room(tishkolan_lattice_children(1, 1, -1, out, 23)));
+    CHECK(no_room(tishkolan_lattice_children(1, 1, -1, NULL, 0)));
+    CHECK(untouched(out, sizeof out));
+}
+
+static void lattice_parent(void)
+{
+    tishkolan_coord_answer parent = tishkolan_lattice_parent(4, 2, 2);
+    CHECK(answered(parent.refusal) && parent.x == 1 && parent.y == 1 && parent.z == 1);
+    parent = tishkolan_lattice_parent(-2, 0, 0);
+    CHECK(answered(parent.refusal) && parent.x == -2 && parent.y == 0 && parent.z == 0);
+    parent = tishkolan_lattice_parent(-3, 1, -1);
+    CHECK(answered(parent.refusal) && parent.x == -2 && parent.y == 0 && parent.z == 0);
+
+    parent = tishkolan_lattice_parent(0, 1, 0);
+    CHECK(mixed(parent.refusal, 0, 1, 0) && parent.x == 0 && parent.y == 0 && parent.z == 0);
+}
+
+static tishkolan_coord_answer snap(double x, double y, double z, uint8_t resolution)
+{
+    return tishkolan_physical_to_lattice(tishkolan_bits_of(x), tishkolan_bits_of(y),
+                                         tishkolan_bits_of(z), resolution);
+}
+
+static void physical(void)
+{
+    tishkolan_coord_answer point = snap(0.5, 0.5, 0.5, 0); /* a tie: the even point wins */
+    CHECK(answered(point.refusal) && point.x == 0 && point.y == 0 && point.z == 0);
+    point = snap(-1.0, 0.0, 0.0, 0); /* a half goes away from zero */
+    CHECK(answered(point.refusal) && point.x == -2 && point.y == 0 && point.z == 0);
+    point = snap(0.0, 1.0, 1.0, 0); /* as far from x = 1 as from x = -1: away from zero again */
+    CHECK(answered(point.refusal) && point.x == -1 && point.y == 1 && point.z == 1);
+    point = snap(0.75, 0.75, 0.75, 2); /* (3, 3, 3) once multiplied by 4 */
+    CHECK(answered(point.refusal) && point.x == 3 && point.y == 3 && point.z == 3);
+    point = snap(2147483646.0, 0.0, 0.0, 0);
+    CHECK(answered(point.refusal) && point.x == 2147483646 && point.y == 0 && point.z == 0);
+
+    point = snap(2147483646.5, 0.0, 0.0, 0);
+    CHECK(refused(point.refusal, TISHKOLAN_OUT_OF_RANGE) && point.x == 0 && point.y == 0 && point.z == 0);
+    point = snap(0.0, 1.0, 0.0, 31);
+    CHECK(refused(point.refusal, TISHKOLAN_OUT_OF_RANGE));
+    point = tishkolan_physical_to_lattice(0, 0, 0xFFF8000000000000, 0); /* a NaN */
+    CHECK(refused(point.refusal, TISHKOLAN_OUT_OF_RANGE));
+
+    tishkolan_point_answer back = tishkolan_to_physical(-3, 1, INT32_MAX);
+    CHECK(answered(back.refusal));
+    CHECK(back.x == tishkolan_bits_of(-3.0) && back.y == tishkolan_bits_of(1.0));
+    CHECK(back.z == tishkolan_bits_of(2147483647.0));
+    back = tishkolan_to_physical(-3, 1, 2);
+    CHECK(mixed(back.refusal, -3, 1, 2) && back.x == 0 && back.y == 0 && back.z == 0);
+}
+
+static void lattice_distances(void)
+{
+    tishkolan_bits_answer distance = tishkolan_lattice_distance(0, 0, 0, 1, 1, 1);
+    CHECK(answered(distance.refusal) && distance.bits == 0x3FFBB67AE8584CAA);
+    /* The difference is a - b: -2147483648 is a 32-bit number, 2147483648 is none. */
+    distance = tishkolan_lattice_distance(INT32_MIN, 0, 0, 0, 0, 0);
+    CHECK(answered(distance.refusal) && tishkolan_double_of(distance.bits) == 2147483648.0);
+    distance = tishkolan_lattice_distance(0, 0, 0, INT32_MIN, 0, 0);
+    CHECK(refused(distance.refusal, TISHKOLAN_COORD_OVERFLOW) && distance.bits == 0);
+    distance = tishkolan_lattice_distance(0, 1, 0, 0, 0, 3);
+    CHECK(mixed(distance.refusal, 0, 1, 0) && distance.bits == 0);
+    distance = tishkolan_lattice_distance(0, 0, 0, 0, 0, 3);
+    CHECK(mixed(distance.refusal, 0, 0, 3) && distance.bits == 0);
+
+    tishkolan_number_answer steps = tishkolan_lattice_manhattan_distance(1, -1, 1, 0, 0, -2);
+    CHECK(answered(steps.refusal) && steps.value == 5);
+    steps = tishkolan_lattice_manhattan_distance(2147483646, 0, 0, 0, 0, 0);
+    CHECK(answered(steps.refusal) && steps.value == 2147483646);
+    steps = tishkolan_lattice_manhattan_distance(2147483646, 0, 0, 0, 2, 0);
+    CHECK(refused(steps.refusal, TISHKOLAN_COORD_OVERFLOW) && steps.value == 0);
+    steps = tishkolan_lattice_manhattan_distance(0, 1, 0, 0, 0, 3);
+    CHECK(mixed(steps.refusal, 0, 1, 0) && steps.value == 0);
+    steps = tishkolan_lattice_manhattan_distance(0, 0, 0, 0, 0, 3);
+    CHECK(mixed(steps.refusal, 0, 0, 3) && steps.value == 0);
+}
+
+/* ---- cells */
+
+static void cell_made(void)
+{
+    static const uint8_t expected[CELL] = {0x00, 0x00, 0x00, 0x01, 0xFF, 0xFF, 0xFF, 0xFF,
+                                           0x00, 0x00, 0x00, 0x01, 0x0A, 0x5C, 0x03, 0x00};
+    uint8_t out[20];
+
+    /* Exponent 28 is kept as 12. */
+    fill(out, sizeof out);
+    CHECK(answered(tishkolan_cell_new(0, 3, 1, -1, 1, 28, 165, out, 20)));
+    CHECK(memcmp(out, expected, CELL) == 0 && untouched(out + CELL, 4));
+    CHECK(answered(tishkolan_cell_new(7, 3, 1, -1, 1, 16, 0, out, 20))); /* and 16 as 0 */
+    CHECK(same(out, at(3, 1, -1, 1)));
+    fill(out, sizeof out);
+    CHECK(answered(tishkolan_cell_from_coords(7, 3, 1, -1, 1, out, CELL)));
+    CHECK(same(out, at(3, 1, -1, 1)) && untouched(out + CELL, 4));
+
+    fill(out, sizeof out);
+    CHECK(mixed(tishkolan_cell_new(0, 3, 1, -1, 2, 0, 0, out, 20), 1, -1, 2));
+    CHECK(mixed(tishkolan_cell_from_coords(0, 3, 1, -1, 2, out, 20), 1, -1, 2));
+    CHECK(no_room(tishkolan_cell_new(0, 3, 1, -1, 1, 28, 165, out, 15)));
+    CHECK(no_room(tishkolan_cell_from_coords(0, 3, 1, -1, 1, out, 15)));
+    CHECK(no_room(tishkolan_cell_new(0, 3, 1, -1, 1, 28, 165, NULL, 0)));
+    CHECK(no_room(tishkolan_cell_from_coords(0, 3, 1, -1, 1, NULL, 0)));
+    CHECK(untouched(out, sizeof out));
+}
+
+static void cell_read(void)
+{
+    const cell plain = at(3, 1, -1, 1), some = marked(plain), broken = at(3, 0, 1, 0);
+    const cell below = at(3, 0, 0, -2), above = at(3, 0, 0, 2);
+    cell reserved = plain;
+
+    tishkolan_fields_answer fields = tishkolan_cell_fields(some.bytes, CELL);
+    CHECK(answered(fields.refusal));
+    CHECK(fields.frame == 7 && fields.resolution == 3 && fields.exponent == 12);
+    CHECK(fields.flags == 165 && fields.reserved == 3);
+    CHECK(fields.x == 1 && fields.y == -1 && fields.z == 1);
+    fields = tishkolan_cell_fields(broken.bytes, CELL); /* every 16 bytes have fields */
+    CHECK(answered(fields.refusal) && fields.y == 1);
+    fields = tishkolan_cell_fields(some.bytes, 15);
+    CHECK(refused(fields.refusal, TISHKOLAN_BAD_LIST));
+    CHECK(fields.frame == 0 && fields.resolution == 0 && fields.exponent == 0 && fields.flags == 0
+          && fields.reserved == 0 && fields.x == 0 && fields.y == 0 && fields.z == 0);
+    CHECK(refused(tishkolan_cell_fields(NULL, 0).refusal, TISHKOLAN_BAD_LIST));
+
+    tishkolan_coord_answer coord = tishkolan_cell_lattice_coord(some.bytes, CELL);
+    CHECK(answered(coord.refusal) && coord.x == 1 && coord.y == -1 && coord.z == 1);
+    coord = tishkolan_cell_lattice_coord(broken.bytes, CELL);
+    CHECK(mixed(coord.refusal, 0, 1, 0) && coord.x == 0 && coord.y == 0 && coord.z == 0);
+    coord = tishkolan_cell_lattice_coord(NULL, 0);
+    CHECK(refused(coord.refusal, TISHKOLAN_BAD_LIST));
+
+    tishkolan_number_answer number = tishkolan_cell_is_plain(plain.bytes, CELL);
+    CHECK(answered(number.refusal) && number.value == 1);
+    number = tishkolan_cell_is_plain(some.bytes, CELL);
+    CHECK(answered(number.refusal) && number.value == 0);
+    reserved.bytes[12] = 0x10;
+    number = tishkolan_cell_is_plain(reserved.bytes, CELL);
+    CHECK(answered(number.refusal) && number.value == 0);
+    number = tishkolan_cell_is_plain(plain.bytes, 0);
+    CHECK(refused(number.refusal, TISHKOLAN_BAD_LIST) && number.value == 0);
+
+    number = tishkolan_cell_compare(plain.bytes, CELL, some.bytes, CELL);
+    CHECK(answered(number.refusal) && number.value == -1);
+    number = tishkolan_cell_compare(some.bytes, CELL, some.bytes, CELL);
+    CHECK(answered(number.refusal) && number.value == 0);
+    number = tishkolan_cell_compare(some.bytes, CELL, plain.bytes, CELL);
+    CHECK(answered(number.refusal) && number.value == 1);
+    /* By the bits: a negative z is above all others. */
+    number = tishkolan_cell_compare(below.bytes, CELL, above.bytes, CELL);
+    CHECK(answered(number.refusal) && number.value == 1);
+    number = tishkolan_cell_compare(some.bytes, 15, plain.bytes, CELL);
+    CHECK(refused(number.refusal, TISHKOLAN_BAD_LIST) && number.value == 0);
+    number = tishkolan_cell_compare(some.bytes, CELL, NULL, 0);
+    CHECK(refused(number.refusal, TISHKOLAN_BAD_LIST) && number.value == 0);
+}
+
+static void cell_neighbors(void)
+{
+    const cell from = marked(at(9, 4, 2, 2)), broken = at(9, 0, 1, 0), edge = at(9, 2147483646, 0, 0);
+    uint8_t out[TISHKOLAN_NEIGHBORS * CELL + 8];
+    const size_t exact = TISHKOLAN_NEIGHBORS * CELL;
+
+    /* The neighbours are plain, though the cell is not. */
+    fill(out, sizeof out);
+    CHECK(answered(tishkolan_cell_neighbors(from.bytes, CELL, out, sizeof out)));
+    CHECK(same(out, at(9, 5, 3, 3)));
+    CHECK(same(out + 8 * CELL, at(9, 6, 2, 2)));
+    CHECK(same(out + 13 * CELL, at(9, 4, 2, 0)));
+    CHECK(untouched(out + exact, 8));
+
+    fill(out, sizeof out);
+    CHECK(refused(tishkolan_cell_neighbors(broken.bytes, 17, out, 0), TISHKOLAN_BAD_LIST));
+    CHECK(mixed(tishkolan_cell_neighbors(broken.bytes, CELL, out, exact), 0, 1, 0));
+    CHECK(refused(tishkolan_cell_neighbors(edge.bytes, CELL, out, exact), TISHKOLAN_COORD_OVERFLOW));
+    CHECK(no_room(tishkolan_cell_neighbors(from.bytes, CELL, out, exact - 1)));
+    CHECK(no_room(tishkolan_cell_neighbors(from.bytes, CELL, NULL, 0)));
+    CHECK(untouched(out, sizeof out));
+}
+
+static void cell_children(void)
+{
+    const cell from = marked(at(9, 1, 1, -1)), finest = at(255, 0, 1, 0);
+    const cell broken = at(9, 0, 1, 0), edge = at(9, 1073741824, 0, 0);
+    uint8_t out[TISHKOLAN_CHILDREN * CELL + 8];
+    const size_t exact = TISHKOLAN_CHILDREN * CELL;
+
+    fill(out, sizeof out);
+    CHECK(answered(tishkolan_cell_children(from.bytes, CELL, out, exact)));
+    CHECK(same(out, at(10, 2, 2, -2)));
+    CHECK(same(out + 7 * CELL, at(10, 3, 1, -3)));
+    CHECK(untouched(out + exact, 8));
+
+    /* The finest resolution is refused before the parity. */
+    fill(out, sizeof out);
+    CHECK(refused(tishkolan_cell_children(NULL, 0, out, exact), TISHKOLAN_BAD_LIST));
+    CHECK(refused(tishkolan_cell_children(finest.bytes, CELL, out, exact), TISHKOLAN_NO_CHILDREN));
+    CHECK(mixed(tishkolan_cell_children(broken.bytes, CELL, out, exact), 0, 1, 0));
+    CHECK(refused(tishkolan_cell_children(edge.bytes, CELL, out, exact), TISHKOLAN_COORD_OVERFLOW));
+    CHECK(refused(tishkolan_cell_children(edge.bytes, CELL, out, 0), TISHKOLAN_COORD_OVERFLOW));
+    CHECK(no_room(tishkolan_cell_children(from.bytes, CELL, out, exact - 1)));
+    CHECK(no_room(tishkolan_cell_children(from.bytes, CELL, NULL, 0)));
+    CHECK(untouched(out, sizeof out));
+}
+
+static void cell_parent(void)
+{
+    const cell from = marked(at(9, 4, 2, 2)), coarsest = at(0, 0, 1, 0), broken = at(9, 0, 1, 0);
+    uint8_t out[20];
+
+    fill(out, sizeof out);
+    CHECK(answered(tishkolan_cell_parent(from.bytes, CELL, out, 20)));
+    CHECK(same(out, at(8, 1, 1, 1)) && untouched(out + CELL, 4));
+
+    /* The coarsest resolution is refused before the parity. */
+    fill(out, sizeof out);
+    CHECK(refused(tishkolan_cell_parent(from.bytes, 15, out, 20), TISHKOLAN_BAD_LIST));
+    CHECK(refused(tishkolan_cell_parent(coarsest.bytes, CELL, out, 20), TISHKOLAN_NO_PARENT));
+    CHECK(mixed(tishkolan_cell_parent(broken.bytes, CELL, out, 20), 0, 1, 0));
+    CHECK(no_room(tishkolan_cell_parent(from.bytes, CELL, out, 15)));
+    CHECK(no_room(tishkolan_cell_parent(from.bytes, CELL, NULL, 0)));
+    CHECK(untouched(out, sizeof out));
+}
+
+static void cell_ancestor(void)
+{
+    const cell from = marked(at(9, 4, 2, 2)), broken = marked(at(9, 0, 1, 0));
+    uint8_t out[20];
+
+    fill(out, sizeof out);
+    CHECK(answered(tishkolan_cell_ancestor(from.bytes, CELL, 8, out, 20)));
+    CHECK(same(out, at(8, 1, 1, 1)) && untouched(out + CELL, 4));
+    CHECK(answered(tishkolan_cell_ancestor(from.bytes, CELL, 0, out, 20)));
+    CHECK(same(out, at(0, 0, 0, 0)));
+    /* At its own resolution a cell is handed back as it is, even one that is off the lattice. */
+    CHECK(answered(tishkolan_cell_ancestor(broken.bytes, CELL, 9, out, CELL)));
+    CHECK(same(out, broken));
+
+    fill(out, sizeof out);
+    CHECK(refused(tishkolan_cell_ancestor(from.bytes, 32, 8, out, 20), TISHKOLAN_BAD_LIST));
+    CHECK(refused(tishkolan_cell_ancestor(broken.bytes, CELL, 10, out, 20), TISHKOLAN_NO_PARENT));
+    CHECK(mixed(tishkolan_cell_ancestor(broken.bytes, CELL, 8, out, 20), 0, 1, 0));
+    CHECK(no_room(tishkolan_cell_ancestor(from.bytes, CELL, 8, out, 15)));
+    CHECK(no_room(tishkolan_cell_ancestor(from.bytes, CELL, 9, NULL, 0)));
+    CHECK(untouched(out, sizeof out));
+}
+
+static void cell_between(void)
+{
+    const cell here = at(9, 0, 0, 0), beside = at(9, 2, 0, 0), diagonal = at(9, 1, 1, 1);
+    const cell finer = at(10, 0, 1, 0), broken = at(9, 0, 1, 0), other = at(9, 0, 0, 3);
+    const cell far = at(9, INT32_MIN, 0, 0);
+
+    /* The middle of two such cells is no lattice point: there is never a cell between. */
+    CHECK(answered(tishkolan_cell_between(here.bytes, CELL, beside.bytes, CELL)));
+    CHECK(answered(tishkolan_cell_between(here.bytes, CELL, diagonal.bytes, CELL)));
+    CHECK(answered(tishkolan_cell_between(broken.bytes, CELL, finer.bytes, CELL)));
+
+    CHECK(refused(tishkolan_cell_between(here.bytes, 15, beside.bytes, CELL), TISHKOLAN_BAD_LIST));
+    CHECK(refused(tishkolan_cell_between(here.bytes, CELL, NULL, 0), TISHKOLAN_BAD_LIST));
+    CHECK(mixed(tishkolan_cell_between(broken.bytes, CELL, other.bytes, CELL), 0, 1, 0));
+    CHECK(mixed(tishkolan_cell_between(here.bytes, CELL, other.bytes, CELL), 0, 0, 3));
+    CHECK(refused(tishkolan_cell_between(here.bytes, CELL, far.bytes, CELL), TISHKOLAN_COORD_OVERFLOW));
+}
+
+static void cell_distances(void)
+{
+    const cell here = at(9, 0, 0, 0), there = marked(at(3, 1, 1, 1)), broken = at(9, 0, 1, 0);
+    const cell other = at(9, 0, 0, 3), far = at(9, INT32_MIN, 0, 0);
+
+    tishkolan_bits_answer distance = tishkolan_cell_distance(here.bytes, CELL, there.bytes, CELL);
+    CHECK(answered(distance.refusal) && distance.bits == 0x3FFBB67AE8584CAA);
+    distance = tishkolan_cell_distance(far.bytes, CELL, here.bytes, CELL);
+    CHECK(answered(distance.refusal) && tishkolan_double_of(distance.bits) == 2147483648.0);
+    distance = tishkolan_cell_distance(here.bytes, CELL, far.bytes, CELL);
+    CHECK(refused(distance.refusal, TISHKOLAN_COORD_OVERFLOW) && distance.bits == 0);
+    distance = tishkolan_cell_distance(broken.bytes, CELL, other.bytes, CELL);
+    CHECK(mixed(distance.refusal, 0, 1, 0) && distance.bits == 0);
+    distance = tishkolan_cell_distance(here.bytes, CELL, other.bytes, CELL);
+    CHECK(mixed(distance.refusal, 0, 0, 3) && distance.bits == 0);
+    distance = tishkolan_cell_distance(NULL, 0, other.bytes, CELL);
+    CHECK(refused(distance.refusal, TISHKOLAN_BAD_LIST) && distance.bits == 0);
+    distance = tishkolan_cell_distance(here.bytes, CELL, other.bytes, 17);
+    CHECK(refused(distance.refusal, TISHKOLAN_BAD_LIST) && distance.bits == 0);
+
+    tishkolan_number_answer steps =
+        tishkolan_cell_manhattan_distance(here.bytes, CELL, there.bytes, CELL);
+    CHECK(answered(steps.refusal) && steps.value == 3);
+    steps = tishkolan_cell_manhattan_distance(here.bytes, CELL, here.bytes, CELL);
+    CHECK(answered(steps.refusal) && steps.value == 0);
+    steps = tishkolan_cell_manhattan_distance(far.bytes, CELL, here.bytes, CELL);
+    CHECK(refused(steps.refusal, TISHKOLAN_COORD_OVERFLOW) && steps.value == 0);
+    steps = tishkolan_cell_manhattan_distance(broken.bytes, CELL, other.bytes, CELL);
+    CHECK(mixed(steps.refusal, 0, 1, 0) && steps.value == 0);
+    steps = tishkolan_cell_manhattan_distance(here.bytes, CELL, other.bytes, CELL);
+    CHECK(mixed(steps.refusal, 0, 0, 3) && steps.value == 0);
+    steps = tishkolan_cell_manhattan_distance(here.bytes, 15, other.bytes, CELL);
+    CHECK(refused(steps.refusal, TISHKOLAN_BAD_LIST) && steps.value == 0);
+    steps = tishkolan_cell_manhattan_distance(here.bytes, CELL, NULL, 0);
+    CHECK(refused(steps.refusal, TISHKOLAN_BAD_LIST) && steps.value == 0);
+}
+
+int main(void)
+{
+    square_root();
+    parity();
+    lattice_neighbors();
+    lattice_children();
+    lattice_parent();
+    physical();
+    lattice_distances();
+    cell_made();
+    cell_read();
+    cell_neighbors();
+    cell_children();
+    cell_parent();
+    cell_ancestor();
+    cell_between();
+    cell_distances();
+    printf("face: %d claims hold, %d do not\n", passed, failed);
+    return failed != 0;
+}
