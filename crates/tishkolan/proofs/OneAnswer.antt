@@ -3,7 +3,6 @@
 use mathlib.Core.Path.{_≡_, sym, ap, _∙_}
 use mathlib.Core.List.{List}
 use Prim.Native.Nat.{ℕ}
-use lib.IntN.{ℤ}
 use contract.Lifetimes.{Lfts}
 use denote.Ref.{at-last}
 use denote.Triple.Clauses.{Lasts, AtExit, atExit}

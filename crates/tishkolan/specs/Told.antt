@@ -1,12 +1,12 @@
 -- What C is told of an answer or a refusal: the structs of include/tishkolan.h. A refusal has its number and what it carries, by the table of `refusal`; the answer beside it
 -- is zero where the call refuses. An answer into a lent buffer fills its front and leaves the rest; a refusal leaves all of it. Definitions only. Assumes nothing.
-use mathlib.Core.Bool.{Bool, cond}
+use mathlib.Core.Bool.{cond}
 use mathlib.Core.List.{List, _++_}
 use Prim.Native.Nat.{ℕ}
 use lib.Dec.{leb}
-use lib.IntN.{ℤ, pos, negsuc}
+use lib.IntN.{ℤ, pos}
 use lib.ListN.{length, drop}
-use lib.Ieee.{Float, binary64, toBits}
+use lib.Ieee.{binary64, toBits}
 use Rattle.refusal.specs.declared.Coord.{Coord}
 use Rattle.refusal.specs.declared.Room.the-variants.{Output}
 use Rattle.refusal.specs.declared.Refusal.{Refusal}
@@ -27,7 +27,6 @@ use Rattle.lattice.specs.declared.NumberAnswer.the-variants as number
 use Rattle.lattice.specs.Lattice.{at}
 use Rattle.distance.specs.declared.DistanceAnswer.{DistanceAnswer}
 use Rattle.distance.specs.declared.DistanceAnswer.the-variants as distance
-use Rattle.snap.specs.declared.BitsOfPoint.{BitsOfPoint}
 use Rattle.snap.specs.declared.PointBits.{PointBits}
 use Rattle.snap.specs.declared.PointBits.the-variants as point
 use Rattle.tishkolan.specs.declared.told.RefusalTold.{RefusalTold}

@@ -57,6 +57,7 @@ pub extern "C" fn tishkolan_is_valid_lattice_point(x: i32, y: i32, z: i32) -> bo
     lattice::is_valid_lattice_point(Coord { x, y, z })
 }
 
+// x, y, z of one place.
 fn put_place(out: &mut [i32], at: usize, c: Coord)
     requires { ⌜ at + 3 ≤ length (now out) ⌝ }
     ensures { λ _. ⌜ now (out .exit) ≡ sets (now (out .entry)) at (triple c) ⌝ }
@@ -69,6 +70,7 @@ fn put_place(out: &mut [i32], at: usize, c: Coord)
     out[at + 2] = z;
 }
 
+// The coordinates of 14 places, at the front.
 fn put_neighbors(out: &mut [i32], places: [Coord; 14])
     requires { ⌜ 42 ≤ length (now out) ⌝ }
     ensures { λ _. ⌜ now (out .exit) ≡ fronted (triples places) (now (out .entry)) ⌝ }
@@ -80,6 +82,7 @@ fn put_neighbors(out: &mut [i32], places: [Coord; 14])
     }
 }
 
+// The coordinates of 8 places, at the front.
 fn put_children(out: &mut [i32], places: [Coord; 8])
     requires { ⌜ 24 ≤ length (now out) ⌝ }
     ensures { λ _. ⌜ now (out .exit) ≡ fronted (triples places) (now (out .entry)) ⌝ }

@@ -1,7 +1,6 @@
 -- Each answer by the tests that led to it.
 use borrow.Author.Needs.{needs}
 use borrow.Author.Tests.{eq-eqb, ne-eqb}
-use mathlib.Core.Path.{ap, _∙_}
 use Rattle.tishkolan.proofs.points.tishkolan_opposite.Statement.{statement}
 use Rattle.tishkolan.proofs.points.tishkolan_opposite.Tie as tie
 
