@@ -3,5 +3,4 @@ pub mod Laws
 pub mod Ancestors
 pub mod Bits
 pub mod Bytes
-pub mod Stored
 pub mod BytesLaws
