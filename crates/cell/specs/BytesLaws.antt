@@ -8,21 +8,19 @@ use native.Mathlib.Nat.{mul-comm}
 use native.Mathlib.Omega.{arith}
 use borrow.Author.Tests.{eq-eqb, le-ltb}
 use lib.Dec.{eqb, ltb}
-use lib.ListN.{length, take, drop, replicate, length-append, drop-of-length-le}
-use lib.Seq.{take-all, take-at, take-add, drop-drop, length-take-le}
+use lib.ListN.{length, take, drop, replicate, drop-of-length-le}
+use lib.Seq.{take-all, take-add, drop-drop, sets-eq}
 use Rattle.refusal.specs.declared.Cell.{Cell}
 use Rattle.refusal.specs.Table.{rawOf}
-use Rattle.words.specs.Word.{big, number, ordered, bytesOf, word, stored, Bytes, Apart}
-use Rattle.words.specs.Laws.{length-bytesOf, length-stored, stored-parts, drop-stored, word-stored, word-stored-apart, bytesOf-part, word-drop, word-lt, word-split-big}
+use Rattle.words.specs.Word.{big, number, ordered, word, stored, Bytes, Apart}
+use Rattle.words.specs.Laws.{length-stored, word-stored, word-stored-apart, bytesOf-part, word-drop, word-lt, word-split-big}
 use Rattle.cell.specs.declared.CellAnswer.the-variants.{Is}
 use Rattle.cell.specs.Bytes.{cellAt, cellBytes, cellStored, fromBytesOf, bytesLess}
 use Rattle.cell.specs.Cell.{lessCell}
+use Rattle.cell.specs.Stored as bytes
+use Rattle.cell.specs.Stored.{length-cellBytes}
 use Rattle.cell.specs.Laws.{Words}
 use Rattle.cell.specs.Bits.{less-digits}
-
-pub length-cellBytes : (c : Cell) → length (cellBytes c) ≡ 16
-unfolding cellBytes
-length-cellBytes c = simp (length-append, length-bytesOf)
 
 -- ---- a stored cell
 
@@ -32,20 +30,9 @@ length-cell-stored l p c = length-stored big 8 (stored big 8 l p (c .high)) (p +
 
 -- the list in three parts
 pub cell-stored-parts : (l : List ℕ) (p : ℕ) (c : Cell) → p + 16 ≤ length l → cellStored l p c ≡ take p l ++ (cellBytes c ++ drop (p + 16) l)
-unfolding cellStored cellBytes
 cell-stored-parts l p c h =
-    let high = bytesOf big 8 (c .high) in
-    let low = bytesOf big 8 (c .low) in
-    let first = stored big 8 l p (c .high) in
-    let long : length first ≡ length l = length-stored big 8 l p (c .high) in
-    let size : length (take p l ++ high) ≡ p + 8 = rw (length-append, length-bytesOf, length-take-le p l (omega arith)) in
-    let front : take (p + 8) first ≡ take p l ++ high = ap (take (p + 8)) (stored-parts big 8 l p (c .high) (omega arith)) ∙ take-at (take p l ++ high) (drop (p + 8) l) (p + 8) size in
-    let back : drop (p + 8 + 8) first ≡ drop (p + 8 + 8) l = sym (drop-drop 8 (p + 8) first) ∙ ap (drop 8) (drop-stored big 8 l p (c .high)) ∙ drop-drop 8 (p + 8) l in
-    let past : p + 8 + 8 ≡ p + 16 = omega arith in
-    stored-parts big 8 first (p + 8) (c .low) (omega arith)
-    ∙ (λ i. front i ++ low ++ back i)
-    ∙ ap (λ (n : ℕ). take p l ++ high ++ low ++ drop n l) past
-    ∙ simp append-assoc
+    let size = length-cellBytes c in
+    bytes.cell-stored l p c ∙ rw size at (sets-eq (cellBytes c) l p (omega arith)) ∙ append-assoc (take p l) (cellBytes c) (drop (p + 16) l)
 
 -- in 16 bytes nothing else is left
 pub cell-stored-whole : (l : List ℕ) (c : Cell) → length l ≡ 16 → cellStored l 0 c ≡ cellBytes c
