@@ -3,4 +3,5 @@ pub mod Laws
 pub mod Ancestors
 pub mod Bits
 pub mod Bytes
+pub mod Stored
 pub mod BytesLaws

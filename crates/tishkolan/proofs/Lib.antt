@@ -3,7 +3,6 @@ pub mod Writing
 pub mod Places
 pub mod Given
 pub mod Found
-pub mod CellsStored
 pub mod OneAnswer
 pub mod OneAnswerCells
 pub mod KnownPoints

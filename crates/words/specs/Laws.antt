@@ -137,7 +137,7 @@ run-apart l i (a ∷ r) j h =
     let e : j ≢ i = omega arith in
     run-apart (set l i a) (suc i) r j (omega arith) ∙ getD-set-other l i j a 0 e
 
-sets-append : (l : List ℕ) (i : ℕ) (r s : List ℕ) → sets l i (r ++ s) ≡ sets (sets l i r) (i + length r) s
+pub sets-append : (l : List ℕ) (i : ℕ) (r s : List ℕ) → sets l i (r ++ s) ≡ sets (sets l i r) (i + length r) s
 sets-append l i [] s = rw add-zero
 sets-append l i (a ∷ r) s = rw (sets-append (set l i a) (suc i) r s, add-suc, suc-add)
 

@@ -1,13 +1,16 @@
 -- The answer by its kind, then by the room.
 use borrow.Author.Needs.{needs}
 use mathlib.Core.Path.{_≡_, refl, sym, ap, _∙_}
+use mathlib.Core.List.{_++_}
+use Prim.Native.Nat.{ℕ}
 use native.Mathlib.Omega.{arith}
-use lib.ListN.{length}
+use native.Mathlib.Nat.{zero-add}
+use lib.ListN.{length, drop}
+use lib.Seq.{sets-eq}
 use Rattle.cell.specs.Bytes.{cellBytes}
-use Rattle.cell.specs.BytesLaws.{length-cellBytes}
+use Rattle.cell.specs.Stored.{length-cellBytes, cell-stored}
 use Rattle.tishkolan.specs.Told.{filled}
 use Rattle.tishkolan.specs.Cells.{fillCell}
-use Rattle.tishkolan.proofs.CellsStored.{cell-front}
 use Rattle.tishkolan.proofs.Writing.{fill-no-room, fill-front}
 use Rattle.tishkolan.proofs.cells.put_cell.Statement.{statement}
 use Rattle.tishkolan.proofs.cells.put_cell.Tie as tie
@@ -54,7 +57,8 @@ returns-3 c =
     let known = start .before .a2 .given in
     let bytes = cellBytes (known .0 .0) in
     let size : length bytes ≡ 16 = length-cellBytes (known .0 .0) in
-    fill-front bytes out refl (omega arith) (c .answered .ensures) (c .before .before .before .write-at .ensures ∙ cell-front out (known .0 .0) (omega arith))
+    let stored = cell-stored out 0 (known .0 .0) ∙ sets-eq bytes out 0 (omega arith) ∙ ap (λ (n : ℕ). bytes ++ drop n out) (zero-add (length bytes)) in
+    fill-front bytes out refl (omega arith) (c .answered .ensures) (c .before .before .before .write-at .ensures ∙ stored)
     ∙ sym (ap (fillCell out) (known .1))
 
 pub put-cell-spec : {M : Type 1} → statement M
