@@ -4,4 +4,5 @@ pub mod Places
 pub mod Given
 pub mod Found
 pub mod OneAnswer
+pub mod OneAnswerCells
 pub mod KnownPoints

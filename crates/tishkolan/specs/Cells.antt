@@ -15,7 +15,7 @@ use Rattle.cell.specs.declared.Order.{Order}
 use Rattle.cell.specs.declared.Order.the-variants.{Below, Same, Above}
 use Rattle.cell.specs.declared.Between.{Between}
 use Rattle.cell.specs.declared.Between.the-variants as between
-use Rattle.cell.specs.Cell.{frameOf, resolutionOf, exponentOf, flagsOf, reservedOf, xOf, yOf, zOf, coordOf, latticeCoordOf, newOf, isPlain, orderOf, neighborsOf, childrenOf, parentOf, ancestorOf, betweenOf, manhattanCells}
+use Rattle.cell.specs.Cell.{frameOf, resolutionOf, exponentOf, flagsOf, reservedOf, xOf, yOf, zOf, coordOf, latticeCoordOf, newOf, isPlain, orderOf, neighborsOf, childrenOf, parentOf, ancestorOf, betweenOf, manhattanCells, distanceCells}
 use Rattle.cell.specs.Bytes.{cellBytes, fromBytesOf}
 use Rattle.distance.specs.Distance.{distanceOf}
 use Rattle.tishkolan.specs.declared.cells.PairAnswer.{PairAnswer}
@@ -134,7 +134,7 @@ betweenTold first second = onCells toldOf (λ a b. ofBetween (betweenOf a b)) fi
 
 unfoldable pub distanceTold : List ℕ → List ℕ → BitsTold
 unfolding fromBytesOf coordOf distanceOf
-distanceTold first second = onCells noBits (λ a b. ofDistance (distanceOf (coordOf a) (coordOf b))) first second
+distanceTold first second = onCells noBits (λ a b. ofDistance (distanceCells a b)) first second
 
 unfoldable pub manhattanTold : List ℕ → List ℕ → NumberTold
 unfolding fromBytesOf

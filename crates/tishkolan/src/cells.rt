@@ -248,10 +248,7 @@ pub extern "C" fn tishkolan_cell_distance(first: &[u8], second: &[u8]) -> BitsTo
     let given = both(first, second);
     match given {
         PairAnswer::Refused(r) => told::no_bits(r),
-        PairAnswer::Are(p) => told::of_distance(distance::distance_to(
-            cell::coord(p.first),
-            cell::coord(p.second),
-        )),
+        PairAnswer::Are(p) => told::of_distance(cell::distance_to(p.first, p.second)),
     }
 }
 
@@ -266,6 +263,7 @@ pub extern "C" fn tishkolan_cell_manhattan_distance(first: &[u8], second: &[u8])
     }
 }
 
+// The bytes of 14 cells, at the front.
 fn put_neighbors(out: &mut [u8], cells: [Cell; 14])
     requires { ⌜ 224 ≤ length (now out) ⌝ }
     ensures { λ _. ⌜ now (out .exit) ≡ fronted (cellsBytes cells) (now (out .entry)) ⌝ }
@@ -277,6 +275,7 @@ fn put_neighbors(out: &mut [u8], cells: [Cell; 14])
     }
 }
 
+// The bytes of 8 cells, at the front.
 fn put_children(out: &mut [u8], cells: [Cell; 8])
     requires { ⌜ 128 ≤ length (now out) ⌝ }
     ensures { λ _. ⌜ now (out .exit) ≡ fronted (cellsBytes cells) (now (out .entry)) ⌝ }

@@ -4,17 +4,16 @@ use mathlib.Core.Path.{_≡_, ap, _∙_}
 use mathlib.Core.List.{List}
 use Prim.Native.Nat.{ℕ}
 use Rattle.tishkolan.specs.declared.cells.PairAnswer.{PairAnswer}
-use Rattle.cell.specs.Cell.{coordOf}
-use Rattle.distance.specs.Distance.{distanceOf}
+use Rattle.cell.specs.Cell.{distanceCells}
 use Rattle.tishkolan.specs.Told.{noBits, ofDistance}
 use Rattle.tishkolan.specs.Cells.{pairOf, distanceTold}
 use Rattle.tishkolan.proofs.Given.{byPair, on-cells}
 use Rattle.tishkolan.proofs.cells.tishkolan_cell_distance.Statement.{statement}
 use Rattle.tishkolan.proofs.cells.tishkolan_cell_distance.Tie as tie
 
-by-cells : (l m : List ℕ) {a b : PairAnswer} → a ≡ pairOf l m → a ≡ b → byPair noBits (λ d e. ofDistance (distanceOf (coordOf d) (coordOf e))) b ≡ distanceTold l m
+by-cells : (l m : List ℕ) {a b : PairAnswer} → a ≡ pairOf l m → a ≡ b → byPair noBits (λ d e. ofDistance (distanceCells d e)) b ≡ distanceTold l m
 unfolding distanceTold
-by-cells = on-cells noBits (λ d e. ofDistance (distanceOf (coordOf d) (coordOf e)))
+by-cells = on-cells noBits (λ d e. ofDistance (distanceCells d e))
 
 both-requires : tie.Need-both-requires
 both-requires c κs = search needs
@@ -28,12 +27,6 @@ no-bits-requires c κs = search needs
 enum-known-given-2 : tie.Need-enum-known-given-2
 enum-known-given-2 c = search needs
 
-coord-requires : tie.Need-coord-requires
-coord-requires c κs = search needs
-
-coord-requires-2 : tie.Need-coord-requires-2
-coord-requires-2 c κs = search needs
-
 distance-to-requires : tie.Need-distance-to-requires
 distance-to-requires c κs = search needs
 
@@ -45,10 +38,8 @@ returns c = let known = c .before .before in c .no-bits .ensures ∙ by-cells _ 
 
 returns-2 : tie.Need-returns-2
 returns-2 c =
-    let known = c .before .before .before .before .before in
-    c .of-distance .ensures
-    ∙ ap ofDistance (c .before .distance-to .ensures ∙ (λ i. distanceOf (c .before .before .before .coord .ensures i) (c .before .before .coord2 .ensures i)))
-    ∙ by-cells _ _ (known .before .before .both .ensures) (known .given2 .given .1)
+    let known = c .before .before .before in
+    c .of-distance .ensures ∙ ap ofDistance (c .before .distance-to .ensures) ∙ by-cells _ _ (known .before .before .both .ensures) (known .given2 .given .1)
 
 pub tishkolan-cell-distance-spec : {M : Type 1} → statement M
 tishkolan-cell-distance-spec =
@@ -58,8 +49,6 @@ tishkolan-cell-distance-spec =
     enum-known-given
     no-bits-requires
     enum-known-given-2
-    coord-requires
-    coord-requires-2
     distance-to-requires
     of-distance-requires
     returns
