@@ -6,7 +6,7 @@ use Rattle.refusal.specs.declared.Cell.{Cell}
 use Rattle.refusal.specs.declared.Refusal.the-variants.{NoParent}
 use Rattle.lattice.specs.Lattice as lattice
 use Rattle.lattice.specs.Lattice.{at, isLatticePoint, parityOf}
-use Rattle.words.specs.Word.{digits, ordered, bytesOf}
+use Rattle.words.specs.Word.{lowDigits, ordered, bytesOf}
 use Rattle.cell.specs.declared.CellAnswer.the-variants.{Is, Refused}
 use Rattle.cell.specs.Cell.{coordOf, exponentOf, packed, newOf, plainAt, parentOf, climbed, ancestorOf}
 use Rattle.cell.specs.Bytes.{cellBytes}
@@ -21,7 +21,7 @@ packs = refl
 
 -- and its bytes
 pub writes : cellBytes known ≡ 0 ∷ 0 ∷ 0 ∷ 1 ∷ 255 ∷ 255 ∷ 255 ∷ 255 ∷ 0 ∷ 0 ∷ 0 ∷ 1 ∷ 0x0A ∷ 0x5C ∷ 3 ∷ 0 ∷ []
-unfolding cellBytes bytesOf digits ordered
+unfolding cellBytes bytesOf lowDigits ordered
 writes = refl
 
 -- of the exponent 28 is kept

@@ -33,7 +33,7 @@ length-cell-stored l p c = length-stored big 8 (stored big 8 l p (c .high)) (p +
 pub cell-stored-parts : (l : List ℕ) (p : ℕ) (c : Cell) → p + 16 ≤ length l → cellStored l p c ≡ take p l ++ (cellBytes c ++ drop (p + 16) l)
 cell-stored-parts l p c h =
     let size = length-cellBytes c in
-    bytes.cell-stored l p c ∙ rw size at (sets-eq (cellBytes c) l p (omega arith)) ∙ append-assoc (take p l) (cellBytes c) (drop (p + 16) l)
+    bytes.cell-stored-sets l p c ∙ rw size at (sets-eq (cellBytes c) l p (omega arith)) ∙ append-assoc (take p l) (cellBytes c) (drop (p + 16) l)
 
 -- in 16 bytes nothing else is left
 pub cell-stored-whole : (l : List ℕ) (c : Cell) → length l ≡ 16 → cellStored l 0 c ≡ cellBytes c

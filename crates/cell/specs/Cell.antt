@@ -22,7 +22,7 @@ use Rattle.lattice.specs.declared.CoordAnswer.{CoordAnswer}
 use Rattle.lattice.specs.declared.CoordAnswer.the-variants as coord
 use Rattle.lattice.specs.declared.NumberAnswer.{NumberAnswer}
 use Rattle.lattice.specs.Lattice as lattice
-use Rattle.lattice.specs.Lattice.{at, parityOf, around, below, hasNeighborRoom, hasChildRoom, manhattan, manhattanOf}
+use Rattle.lattice.specs.Lattice.{at, parityOf, neighborPlaces, childPlaces, hasNeighborRoom, hasChildRoom, manhattan, manhattanOf}
 use Rattle.distance.specs.declared.DistanceAnswer.{DistanceAnswer}
 use Rattle.distance.specs.Distance.{distanceOf}
 use Rattle.cell.specs.declared.CellAnswer.{CellAnswer}
@@ -126,8 +126,8 @@ noNeighbors r = record { outcome = outcome.Refused r; cells = replicate 14 zeroC
 
 -- the plain cells of the same frame and resolution at the neighbouring places
 unfoldable pub nearCells : Cell → List Cell
-unfolding coordOf around packed
-nearCells c = map (plainAt (frameOf c) (resolutionOf c)) (around (coordOf c))
+unfolding coordOf neighborPlaces packed
+nearCells c = map (plainAt (frameOf c) (resolutionOf c)) (neighborPlaces (coordOf c))
 
 abbrev pub neighborsIn : Bool → Cell → Neighbors
 neighborsIn true c = record { outcome = outcome.Answered; cells = nearCells c }
@@ -147,8 +147,8 @@ abbrev pub noChildren : Refusal → Children
 noChildren r = record { outcome = outcome.Refused r; cells = replicate 8 zeroCell }
 
 unfoldable pub childCells : Cell → List Cell
-unfolding coordOf below packed
-childCells c = map (plainAt (frameOf c) (resolutionOf c + 1)) (below (coordOf c))
+unfolding coordOf childPlaces packed
+childCells c = map (plainAt (frameOf c) (resolutionOf c + 1)) (childPlaces (coordOf c))
 
 abbrev pub childrenIn : Bool → Cell → Children
 childrenIn true c = record { outcome = outcome.Answered; cells = childCells c }

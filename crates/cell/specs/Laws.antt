@@ -24,7 +24,7 @@ use Rattle.lattice.specs.declared.ParityAnswer.the-variants as parity
 use Rattle.lattice.specs.declared.CoordAnswer.{CoordAnswer}
 use Rattle.lattice.specs.declared.CoordAnswer.the-variants as coord
 use Rattle.lattice.specs.Lattice as lattice
-use Rattle.lattice.specs.Lattice.{at, Fitting, isLatticePoint, parityOf, around, below, hasNeighborRoom, hasChildRoom, manhattan}
+use Rattle.lattice.specs.Lattice.{at, Fitting, isLatticePoint, parityOf, neighborPlaces, childPlaces, hasNeighborRoom, hasChildRoom, manhattan}
 use Rattle.lattice.specs.Laws as lattice-laws
 use Rattle.lattice.specs.Laws.{parity-point, neighbor-symmetric, room-fits, child-room-fits}
 use Rattle.lattice.specs.Middle.{middle}
@@ -147,7 +147,7 @@ pub child-parent : (c k : Cell) → HasChildren c → List·Memᴰ k (childCells
 unfolding childCells plainTwin
 child-parent c k h m =
     let frame : frameOf c < 256 = omega arith in
-    let t = Memᴰ·of-map (plainAt (frameOf c) (resolutionOf c + 1)) (below (coordOf c)) m in
+    let t = Memᴰ·of-map (plainAt (frameOf c) (resolutionOf c + 1)) (childPlaces (coordOf c)) m in
     let b = fields-packed (frameOf c) (resolutionOf c + 1) (t .0) 0 0 frame (omega arith) (omega arith) (child-room-fits (coordOf c) (t .0) (h .room) (t .1)) in
     subst (λ (k : Cell). parentOf k ≡ Is (plainAt (frameOf c) (resolutionOf c) (coordOf c))) (t .2)
     (parent-by (plainAt (frameOf c) (resolutionOf c + 1) (t .0)) (frameOf c) (resolutionOf c) (t .0) (coordOf c) (b .frame-back) (b .resolution-back) (b .coord-back) (lattice-laws.child-parent (coordOf c) (t .0) (h .point) (t .1)))
@@ -194,7 +194,7 @@ near-back : (c n : Cell) → Words c → isPlain c ≡ true → hasNeighborRoom 
 unfolding nearCells plainTwin
 near-back c n w e room m =
     let frame : frameOf c < 256 = omega arith in
-    let t = Memᴰ·of-map (plainAt (frameOf c) (resolutionOf c)) (around (coordOf c)) m in
+    let t = Memᴰ·of-map (plainAt (frameOf c) (resolutionOf c)) (neighborPlaces (coordOf c)) m in
     let b = fields-packed (frameOf c) (resolutionOf c) (t .0) 0 0 frame (omega arith) (omega arith) (room-fits (coordOf c) (t .0) room (t .1)) in
     let place : coordOf n ≡ t .0 = ap coordOf (sym (t .2)) ∙ b .coord-back in
     let frames : frameOf c ≡ frameOf n = sym (b .frame-back) ∙ ap frameOf (t .2) in

@@ -13,9 +13,9 @@ pub length-cellBytes : (c : Cell) → length (cellBytes c) ≡ 16
 unfolding cellBytes
 length-cellBytes c = rw (length-append, length-bytesOf, length-bytesOf)
 
-pub cell-stored : (l : List ℕ) (p : ℕ) (c : Cell) → cellStored l p c ≡ sets l p (cellBytes c)
+pub cell-stored-sets : (l : List ℕ) (p : ℕ) (c : Cell) → cellStored l p c ≡ sets l p (cellBytes c)
 unfolding cellStored cellBytes stored
-cell-stored l p c =
+cell-stored-sets l p c =
     let high = bytesOf big 8 (c .high) in
     let low = bytesOf big 8 (c .low) in
     sym (sets-append l p high low ∙ ap (λ (n : ℕ). sets (sets l p high) (p + n) low) (length-bytesOf big 8 (c .high)))

@@ -259,7 +259,7 @@ pub fn get_neighbors(c: Cell) -> Neighbors
         ParityAnswer::Refused(r) => no_neighbors(r),
         ParityAnswer::Is(_) => {
             if lattice::has_neighbor_room(place) {
-                let cells = plain14(frame(c), resolution(c), lattice::around(place));
+                let cells = plain14(frame(c), resolution(c), lattice::neighbor_places(place));
                 Neighbors {
                     outcome: Outcome::Answered,
                     cells,
@@ -307,7 +307,7 @@ pub fn get_children(c: Cell) -> Children
         ParityAnswer::Refused(r) => no_children(r),
         ParityAnswer::Is(_) => {
             if lattice::has_child_room(place) {
-                let cells = plain8(frame(c), level + 1, lattice::below(place));
+                let cells = plain8(frame(c), level + 1, lattice::child_places(place));
                 Children {
                     outcome: Outcome::Answered,
                     cells,

@@ -8,7 +8,7 @@ use lib.Ieee.{Float, fin, binary64, ofBits, ofInt, add, mul}
 use Rattle.refusal.specs.declared.Coord.{Coord}
 use Rattle.lattice.specs.declared.Parity.{Parity}
 use Rattle.lattice.specs.declared.ParityAnswer.the-variants as parity
-use Rattle.lattice.specs.Lattice.{at, origin, moved, within, isOdd, parityOf, neighborSteps, around}
+use Rattle.lattice.specs.Lattice.{at, origin, moved, within, isOdd, parityOf, neighborSteps, neighborPlaces}
 use Rattle.lattice.specs.Laws.{parity-point, point-parity, neighbors-are-points}
 use Rattle.lattice.specs.Tables.{Each, at-member}
 use Rattle.root.specs.Root.{rootOf}
@@ -61,15 +61,15 @@ distance-from-itself a in-a =
 abbrev pub rootThree : Float
 rootThree = ofBits binary64 0x3FFB_B67A_E858_4CAA
 
-abbrev pub two : Float
-two = fin false 1 (pos 1)
+abbrev pub twoFloat : Float
+twoFloat = fin false 1 (pos 1)
 
 -- the root of 3 where the step changes the parity, 2.0 where it keeps it
 abbrev pub stepCost : Coord → Float
-stepCost d = cond (isOdd (d .x)) rootThree two
+stepCost d = cond (isOdd (d .x)) rootThree twoFloat
 
 -- the first eight, then the last six
-pub step-table : map stepCost neighborSteps ≡ replicate 8 rootThree ++ replicate 6 two
+pub step-table : map stepCost neighborSteps ≡ replicate 8 rootThree ++ replicate 6 twoFloat
 unfolding neighborSteps
 step-table = refl
 
@@ -85,7 +85,7 @@ step-difference c d = λ i. at (on-axis (c .x) (d .x) i) (on-axis (c .y) (d .y) 
 
 -- each step of the table from a lattice point
 pub step-costs : (c d : Coord) {p : Parity} → parityOf c ≡ parity.Is p → List·Memᴰ d neighborSteps → distanceOf c (moved c d) ≡ Is (stepCost d)
-unfolding around
+unfolding neighborPlaces
 step-costs c d {p} e m =
     distance-tested c (moved c d) e (point-parity (moved c d) (neighbors-are-points c (moved c d) (parity-point c p e) (Memᴰ·map (moved c) m))) refl
     ∙ tested-by-difference c (moved c d) origin d (step-difference c d)

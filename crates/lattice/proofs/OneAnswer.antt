@@ -9,14 +9,14 @@ use Rattle.lattice.proofs.parity_of.Kinds as parity-of-kinds
 use Rattle.lattice.proofs.parity_of.Reads as parity-of
 use Rattle.lattice.proofs.has_neighbor_room.Kinds as has-neighbor-room-kinds
 use Rattle.lattice.proofs.has_neighbor_room.Reads as has-neighbor-room
-use Rattle.lattice.proofs.around.Kinds as around-kinds
-use Rattle.lattice.proofs.around.Reads as around
+use Rattle.lattice.proofs.neighbor_places.Kinds as neighbor-places-kinds
+use Rattle.lattice.proofs.neighbor_places.Reads as neighbor-places
 use Rattle.lattice.proofs.get_neighbors.Kinds as get-neighbors-kinds
 use Rattle.lattice.proofs.get_neighbors.Reads as get-neighbors
 use Rattle.lattice.proofs.has_child_room.Kinds as has-child-room-kinds
 use Rattle.lattice.proofs.has_child_room.Reads as has-child-room
-use Rattle.lattice.proofs.below.Kinds as below-kinds
-use Rattle.lattice.proofs.below.Reads as below
+use Rattle.lattice.proofs.child_places.Kinds as child-places-kinds
+use Rattle.lattice.proofs.child_places.Reads as child-places
 use Rattle.lattice.proofs.get_children.Kinds as get-children-kinds
 use Rattle.lattice.proofs.get_children.Reads as get-children
 use Rattle.lattice.proofs.get_parent.Kinds as get-parent-kinds
@@ -36,8 +36,8 @@ parity-of-one κs a z z′ e e′ p q = p ∙ sym q
 pub has-neighbor-room-one : OneAnswer 0 has-neighbor-room-kinds.ps has-neighbor-room-kinds.r has-neighbor-room.Post
 has-neighbor-room-one κs a z z′ e e′ p q = p ∙ sym q
 
-pub around-one : OneAnswer 0 around-kinds.ps around-kinds.r around.Post
-around-one κs a z z′ e e′ p q = p ∙ sym q
+pub neighbor-places-one : OneAnswer 0 neighbor-places-kinds.ps neighbor-places-kinds.r neighbor-places.Post
+neighbor-places-one κs a z z′ e e′ p q = p ∙ sym q
 
 pub get-neighbors-one : OneAnswer 0 get-neighbors-kinds.ps get-neighbors-kinds.r get-neighbors.Post
 get-neighbors-one κs a z z′ e e′ p q = p ∙ sym q
@@ -45,8 +45,8 @@ get-neighbors-one κs a z z′ e e′ p q = p ∙ sym q
 pub has-child-room-one : OneAnswer 0 has-child-room-kinds.ps has-child-room-kinds.r has-child-room.Post
 has-child-room-one κs a z z′ e e′ p q = p ∙ sym q
 
-pub below-one : OneAnswer 0 below-kinds.ps below-kinds.r below.Post
-below-one κs a z z′ e e′ p q = p ∙ sym q
+pub child-places-one : OneAnswer 0 child-places-kinds.ps child-places-kinds.r child-places.Post
+child-places-one κs a z z′ e e′ p q = p ∙ sym q
 
 pub get-children-one : OneAnswer 0 get-children-kinds.ps get-children-kinds.r get-children.Post
 get-children-one κs a z z′ e e′ p q = p ∙ sym q

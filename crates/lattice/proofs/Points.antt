@@ -9,7 +9,7 @@ use Rattle.refusal.specs.declared.Outcome.the-variants.{Answered, Refused}
 use Rattle.lattice.specs.declared.ParityAnswer.the-variants as parity
 use Rattle.lattice.specs.declared.CoordAnswer.the-variants.{At}
 use Rattle.lattice.specs.declared.NumberAnswer.the-variants as number
-use Rattle.lattice.specs.Lattice.{at, origin, isLatticePoint, parityOf, hasNeighborRoom, around, neighborSteps, neighborsOf, hasChildRoom, below, childSteps, childrenOf, parentOf, manhattan, manhattanOf}
+use Rattle.lattice.specs.Lattice.{at, origin, isLatticePoint, parityOf, hasNeighborRoom, neighborPlaces, neighborSteps, neighborsOf, hasChildRoom, childPlaces, childSteps, childrenOf, parentOf, manhattan, manhattanOf}
 
 -- (0, 1, 0) is mixed
 pub mixed : parityOf (at (pos 0) (pos 1) (pos 0)) ≡ parity.Refused (InvalidParity (at (pos 0) (pos 1) (pos 0)))
@@ -26,11 +26,11 @@ around-of c = neighborsOf c .outcome
 
 -- neighbours: -2147483646 and 2147483645 are the last that are answered
 pub neighbor-ends : map around-of (at (negsuc 2147483645) (pos 0) (pos 0) ∷ at (pos 1) (pos 2147483645) (pos 1) ∷ []) ≡ Answered ∷ Answered ∷ []
-unfolding neighborsOf parityOf isLatticePoint hasNeighborRoom around neighborSteps
+unfolding neighborsOf parityOf isLatticePoint hasNeighborRoom neighborPlaces neighborSteps
 neighbor-ends = refl
 
 pub neighbor-past : map around-of (at (negsuc 2147483646) (pos 1) (pos 1) ∷ at (pos 2147483646) (pos 0) (pos 0) ∷ at (pos 0) (pos 0) (pos 2147483646) ∷ []) ≡ Refused CoordOverflow ∷ Refused CoordOverflow ∷ Refused CoordOverflow ∷ []
-unfolding neighborsOf parityOf isLatticePoint hasNeighborRoom around neighborSteps
+unfolding neighborsOf parityOf isLatticePoint hasNeighborRoom neighborPlaces neighborSteps
 neighbor-past = refl
 
 abbrev below-of : Coord → Outcome
@@ -38,11 +38,11 @@ below-of c = childrenOf c .outcome
 
 -- children: x from -1073741824, y and z from -1073741823, all to 1073741822
 pub child-ends : map below-of (at (negsuc 1073741823) (pos 0) (pos 0) ∷ at (pos 1073741822) (pos 0) (pos 0) ∷ at (pos 1) (negsuc 1073741822) (negsuc 1073741822) ∷ at (pos 0) (pos 1073741822) (pos 1073741822) ∷ []) ≡ Answered ∷ Answered ∷ Answered ∷ Answered ∷ []
-unfolding childrenOf parityOf isLatticePoint hasChildRoom below childSteps
+unfolding childrenOf parityOf isLatticePoint hasChildRoom childPlaces childSteps
 child-ends = refl
 
 pub child-past : map below-of (at (negsuc 1073741824) (pos 1) (pos 1) ∷ at (pos 1073741823) (pos 1) (pos 1) ∷ at (pos 0) (negsuc 1073741823) (pos 0) ∷ at (pos 0) (pos 0) (negsuc 1073741823) ∷ at (pos 1) (pos 1073741823) (pos 1) ∷ at (pos 1) (pos 1) (pos 1073741823) ∷ []) ≡ Refused CoordOverflow ∷ Refused CoordOverflow ∷ Refused CoordOverflow ∷ Refused CoordOverflow ∷ Refused CoordOverflow ∷ Refused CoordOverflow ∷ []
-unfolding childrenOf parityOf isLatticePoint hasChildRoom below childSteps
+unfolding childrenOf parityOf isLatticePoint hasChildRoom childPlaces childSteps
 child-past = refl
 
 -- Manhattan distances from (0, 0, 0): 2147483647 is the last that is answered

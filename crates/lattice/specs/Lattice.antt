@@ -69,9 +69,9 @@ neighborSteps =
 abbrev pub moved : Coord → Coord → Coord
 moved c d = at (c .x +ℤ d .x) (c .y +ℤ d .y) (c .z +ℤ d .z)
 
-unfoldable pub around : Coord → List Coord
+unfoldable pub neighborPlaces : Coord → List Coord
 unfolding neighborSteps
-around c = map (moved c) neighborSteps
+neighborPlaces c = map (moved c) neighborSteps
 
 -- from low to high, both ends counted
 abbrev pub within : ℤ → ℤ → ℤ → Bool
@@ -88,7 +88,7 @@ abbrev pub noNeighbors : Refusal → Neighbors
 noNeighbors r = record { outcome = outcome.Refused r; coords = replicate 14 origin }
 
 abbrev pub neighborsIn : Bool → Coord → Neighbors
-neighborsIn true c = record { outcome = outcome.Answered; coords = around c }
+neighborsIn true c = record { outcome = outcome.Answered; coords = neighborPlaces c }
 neighborsIn false c = noNeighbors CoordOverflow
 
 abbrev pub neighborsBy : ParityAnswer → Coord → Neighbors
@@ -97,7 +97,7 @@ neighborsBy (parity.Is p) c = neighborsIn (hasNeighborRoom c) c
 
 -- "Parity first, then CoordOverflow"
 unfoldable pub neighborsOf : Coord → Neighbors
-unfolding parityOf hasNeighborRoom around
+unfolding parityOf hasNeighborRoom neighborPlaces
 neighborsOf c = neighborsBy (parityOf c) c
 
 -- ---- children
@@ -113,9 +113,9 @@ childSteps =
 abbrev pub doubled : Coord → Coord
 doubled c = moved c c
 
-unfoldable pub below : Coord → List Coord
+unfoldable pub childPlaces : Coord → List Coord
 unfolding childSteps
-below c = map (moved (doubled c)) childSteps
+childPlaces c = map (moved (doubled c)) childSteps
 
 -- "x is in -1073741824..=1073741822 and y, z in -1073741823..=1073741822"
 unfoldable pub hasChildRoom : Coord → Bool
@@ -127,7 +127,7 @@ abbrev pub noChildren : Refusal → Children
 noChildren r = record { outcome = outcome.Refused r; coords = replicate 8 origin }
 
 abbrev pub childrenIn : Bool → Coord → Children
-childrenIn true c = record { outcome = outcome.Answered; coords = below c }
+childrenIn true c = record { outcome = outcome.Answered; coords = childPlaces c }
 childrenIn false c = noChildren CoordOverflow
 
 abbrev pub childrenBy : ParityAnswer → Coord → Children
@@ -136,7 +136,7 @@ childrenBy (parity.Is p) c = childrenIn (hasChildRoom c) c
 
 -- parity, then CoordOverflow
 unfoldable pub childrenOf : Coord → Children
-unfolding parityOf hasChildRoom below
+unfolding parityOf hasChildRoom childPlaces
 childrenOf c = childrenBy (parityOf c) c
 
 -- ---- parent

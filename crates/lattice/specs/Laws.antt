@@ -7,7 +7,7 @@ use Rattle.lattice.specs.declared.Parity.{Parity}
 use Rattle.lattice.specs.declared.Parity.the-variants.{Even, Odd}
 use Rattle.lattice.specs.declared.ParityAnswer.the-variants as parity
 use Rattle.lattice.specs.declared.CoordAnswer.the-variants as coord
-use Rattle.lattice.specs.Lattice.{Fitting, isOdd, isLatticePoint, parityOf, moved, around, neighborSteps, hasNeighborRoom, hasChildRoom, doubled, below, childSteps, halves, parentOf, manhattan}
+use Rattle.lattice.specs.Lattice.{Fitting, isOdd, isLatticePoint, parityOf, moved, neighborPlaces, neighborSteps, hasNeighborRoom, hasChildRoom, doubled, childPlaces, childSteps, halves, parentOf, manhattan}
 use Rattle.lattice.specs.Middle.{middle}
 use Rattle.lattice.specs.Signs.{either}
 use Rattle.lattice.specs.Tables.{at-member, at-image, by-test}
@@ -27,15 +27,15 @@ unfolding parityOf
 point-parity c e = ap (λ (t : Bool). answer t (isOdd (c .x)) c) e
 
 -- each child is a lattice point
-pub children-are-points : (c d : Coord) → List·Memᴰ d (below c) → isLatticePoint d ≡ true
-unfolding below isLatticePoint
+pub children-are-points : (c d : Coord) → List·Memᴰ d (childPlaces c) → isLatticePoint d ≡ true
+unfolding childPlaces isLatticePoint
 children-are-points c d m =
     by-test (moved (doubled c)) (λ (d : Coord). isLatticePoint d ≡ true) isLatticePoint childSteps refl
     (λ (s : Coord) (e : isLatticePoint s ≡ true). same-parity (isOdd (s .x)) (moved (doubled c) s) (child-odds c s (point-odds s e))) m
 
 -- each neighbour of a lattice point is one
-pub neighbors-are-points : (c d : Coord) → isLatticePoint c ≡ true → List·Memᴰ d (around c) → isLatticePoint d ≡ true
-unfolding around isLatticePoint
+pub neighbors-are-points : (c d : Coord) → isLatticePoint c ≡ true → List·Memᴰ d (neighborPlaces c) → isLatticePoint d ≡ true
+unfolding neighborPlaces isLatticePoint
 neighbors-are-points c d p m =
     by-test (moved c) (λ (d : Coord). isLatticePoint d ≡ true) isLatticePoint neighborSteps refl
     (λ (s : Coord) (e : isLatticePoint s ≡ true). same-parity (either (isOdd (c .x)) (isOdd (s .x))) (moved c s) (moved-odds c s (point-odds c p) (point-odds s e))) m
@@ -47,13 +47,13 @@ parent-is-point c p e = parent-cases (λ (p : Coord). isLatticePoint p ≡ true)
 -- ---- children and neighbours
 
 -- the parent of each child of a lattice point is that point
-pub child-parent : (c d : Coord) → isLatticePoint c ≡ true → List·Memᴰ d (below c) → parentOf d ≡ coord.At c
-unfolding below
+pub child-parent : (c d : Coord) → isLatticePoint c ≡ true → List·Memᴰ d (childPlaces c) → parentOf d ≡ coord.At c
+unfolding childPlaces
 child-parent c d e m = at-image (moved (doubled c)) (λ (d : Coord). parentOf d ≡ coord.At c) childSteps m (child-home c (isOdd (c .x)) (point-odds c e))
 
 -- a point is a neighbour of each of its neighbours
-pub neighbor-symmetric : (c d : Coord) → List·Memᴰ d (around c) → List·Memᴰ c (around d)
-unfolding around
+pub neighbor-symmetric : (c d : Coord) → List·Memᴰ d (neighborPlaces c) → List·Memᴰ c (neighborPlaces d)
+unfolding neighborPlaces
 neighbor-symmetric c d m =
     let r = Memᴰ·of-map (moved c) neighborSteps m in
     let b = at-member (λ (s : Coord). List·Memᴰ (back s) neighborSteps) (r .1) ways-back in
@@ -62,13 +62,13 @@ neighbor-symmetric c d m =
 -- ---- room
 
 -- 32 bits hold each neighbour of a point with neighbour room
-pub room-fits : (c d : Coord) → hasNeighborRoom c ≡ true → List·Memᴰ d (around c) → Fitting d
-unfolding around
+pub room-fits : (c d : Coord) → hasNeighborRoom c ≡ true → List·Memᴰ d (neighborPlaces c) → Fitting d
+unfolding neighborPlaces
 room-fits c d e m = by-test (moved c) Fitting short neighborSteps refl (λ (s : Coord) (f : short s ≡ true). moved-fits c s e f) m
 
 -- and each child of a point with child room
-pub child-room-fits : (c d : Coord) → hasChildRoom c ≡ true → List·Memᴰ d (below c) → Fitting d
-unfolding below
+pub child-room-fits : (c d : Coord) → hasChildRoom c ≡ true → List·Memᴰ d (childPlaces c) → Fitting d
+unfolding childPlaces
 child-room-fits c d e m = by-test (moved (doubled c)) Fitting childlike childSteps refl (λ (s : Coord) (f : childlike s ≡ true). doubled-fits c s e f) m
 
 -- and the parent of any point that they hold

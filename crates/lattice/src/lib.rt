@@ -5,7 +5,7 @@ ghost use Prim.Native.Nat.{_<_, _^_};
 ghost use lib.IntN.{natAbs, _-ℤ_};
 ghost use mir.Syntax.{w32};
 ghost use mir.Val.{SFits};
-ghost use Rattle.lattice.specs.Lattice.{isOdd, isLatticePoint, parityOf, oppositeOf, Fitting, at, moved, doubled, within, hasNeighborRoom, around, noNeighbors, neighborsOf, hasChildRoom, below, noChildren, childrenOf, half, halves, lowered, raised, alone, evenParent, oddParent, parentOf, apart, manhattan, manhattanOf};
+ghost use Rattle.lattice.specs.Lattice.{isOdd, isLatticePoint, parityOf, oppositeOf, Fitting, at, moved, doubled, within, hasNeighborRoom, neighborPlaces, noNeighbors, neighborsOf, hasChildRoom, childPlaces, noChildren, childrenOf, half, halves, lowered, raised, alone, evenParent, oddParent, parentOf, apart, manhattan, manhattanOf};
 use refusal::Coord;
 use refusal::Outcome;
 use refusal::Refusal;
@@ -158,9 +158,9 @@ fn doubled(c: Coord) -> Coord
 }
 
 // The 14 neighbours in the table's order, where there is room.
-pub fn around(c: Coord) -> [Coord; 14]
+pub fn neighbor_places(c: Coord) -> [Coord; 14]
     requires { ⌜ hasNeighborRoom c ≡ true ⌝ }
-    ensures { λ r. ⌜ r ≡ around c ⌝ }
+    ensures { λ r. ⌜ r ≡ neighborPlaces c ⌝ }
 {
     [
         moved(c, 1, 1, 1),
@@ -202,7 +202,7 @@ pub fn get_neighbors(c: Coord) -> Neighbors
         ParityAnswer::Refused(r) => no_neighbors(r),
         ParityAnswer::Is(_) => {
             if has_neighbor_room(c) {
-                let coords = around(c);
+                let coords = neighbor_places(c);
                 Neighbors {
                     outcome: Outcome::Answered,
                     coords,
@@ -215,9 +215,9 @@ pub fn get_neighbors(c: Coord) -> Neighbors
 }
 
 // The 8 children in the table's order, where there is room.
-pub fn below(c: Coord) -> [Coord; 8]
+pub fn child_places(c: Coord) -> [Coord; 8]
     requires { ⌜ hasChildRoom c ≡ true ⌝ }
-    ensures { λ r. ⌜ r ≡ below c ⌝ }
+    ensures { λ r. ⌜ r ≡ childPlaces c ⌝ }
 {
     let twice = doubled(c);
     [
@@ -251,7 +251,7 @@ pub fn get_children(c: Coord) -> Children
         ParityAnswer::Refused(r) => no_children(r),
         ParityAnswer::Is(_) => {
             if has_child_room(c) {
-                let coords = below(c);
+                let coords = child_places(c);
                 Children {
                     outcome: Outcome::Answered,
                     coords,

@@ -8,7 +8,7 @@ use lib.Pow.{pow-mono}
 use lib.Dec.{T, leb, leb→le, nleb→lt, lit≤}
 use lib.Ieee.{size}
 use lib.Ieee.Digits.{size-lt}
-use Rattle.root.specs.Root.{digits, isqrt}
+use Rattle.root.specs.Root.{rootDigits, isqrt}
 
 -- s is the largest number whose square is at most n
 pub record IsRoot (n s : ℕ) : Type 0 where
@@ -29,11 +29,11 @@ step n t r false g h =
     let b = sq-two t in
     record { low = omega (arith, r .low); high = h tt }
 
-digits-is : (k n : ℕ) → n < 4 ^ k → IsRoot n (digits k n)
-unfolding digits
+digits-is : (k n : ℕ) → n < 4 ^ k → IsRoot n (rootDigits k n)
+unfolding rootDigits
 digits-is zero n h = record { low = omega arith; high = h }
 digits-is (suc k) n h =
-    let t = digits k (n / 4) in
+    let t = rootDigits k (n / 4) in
     let p : 4 ^ suc k ≡ 4 ^ k * 4 = pow-suc 4 k in
     step n t (digits-is k (n / 4) (omega arith)) (leb (suc (2 * t) * suc (2 * t)) n) (leb→le (suc (2 * t) * suc (2 * t)) n) (nleb→lt (suc (2 * t) * suc (2 * t)) n)
 

@@ -10,14 +10,14 @@ use Rattle.root.specs.declared.Root.the-variants.{Of, Refused}
 use Rattle.root.specs.declared.RootBits.{RootBits}
 
 -- The largest s with s * s ≤ n, for an n of at most k digits of base 4: one binary digit of s for each.
-unfoldable pub digits : ℕ → ℕ → ℕ
-digits zero n = 0
-digits (suc k) n = let s = 2 * digits k (n / 4) in cond (leb (suc s * suc s) n) (suc s) s
+unfoldable pub rootDigits : ℕ → ℕ → ℕ
+rootDigits zero n = 0
+rootDigits (suc k) n = let s = 2 * rootDigits k (n / 4) in cond (leb (suc s * suc s) n) (suc s) s
 
 -- The largest s with s * s ≤ n.
 unfoldable pub isqrt : ℕ → ℕ
-unfolding digits size
-isqrt n = digits (size n) n
+unfolding rootDigits size
+isqrt n = rootDigits (size n) n
 
 -- How many binary digits the root of n is moved up by, so that its whole part has 54 of them: one more than an f64 keeps.
 unfoldable pub shift : ℕ → ℕ

@@ -42,15 +42,24 @@ fn guess(n: u64) -> u64
     if c * c > n { c - 1 } else { c }
 }
 
-// The largest r with r * r <= n, from a guess that the two loops mend.
+// The guess, or the next number below it whose square is at most n.
+fn lowered(n: u64, guess: u64) -> u64
+    requires { ⌜ guess ≤ 4294967295 ⌝ }
+    ensures { λ r. ⌜ (r ≤ 4294967295) × (r * r ≤ n) ⌝ }
+{
+    let mut p = guess;
+    while p * p > n {
+        p = p - 1;
+    }
+    p
+}
+
+// The largest r with r * r <= n, whatever the guess was.
 fn floor_root(n: u64) -> u64
     requires { ⌜ 4611686018427387904 ≤ n ⌝ }
     ensures { λ r. ⌜ IsRoot n r ⌝ }
 {
-    let mut p = guess(n);
-    while p * p > n {
-        p = p - 1;
-    }
+    let mut p = lowered(n, guess(n));
     while n - p * p > p * 2 {
         p = p + 1;
     }

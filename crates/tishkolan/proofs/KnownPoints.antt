@@ -11,7 +11,7 @@ use Rattle.lattice.specs.declared.ParityAnswer.the-variants as parity
 use Rattle.lattice.specs.declared.CoordAnswer.the-variants.{At, Refused}
 use Rattle.lattice.specs.Lattice.{at, isLatticePoint, parityOf, parentOf}
 use Rattle.snap.specs.Snap.{point, snapOf}
-use Rattle.words.specs.Word.{digits, ordered, bytesOf}
+use Rattle.words.specs.Word.{lowDigits, ordered, bytesOf}
 use Rattle.cell.specs.Cell.{packed}
 use Rattle.cell.specs.Bytes.{cellBytes}
 
@@ -41,7 +41,7 @@ pub record KnownPoints : Type 0 where
   pub root-of-three : rootBitsOf 0x4008_0000_0000_0000 ≡ root.Bits 0x3FFB_B67A_E858_4CAA
 
 pub known-points : KnownPoints
-unfolding cellBytes bytesOf digits ordered packed isLatticePoint parityOf parentOf snapOf rootBitsOf ofBits toBits
+unfolding cellBytes bytesOf lowDigits ordered packed isLatticePoint parityOf parentOf snapOf rootBitsOf ofBits toBits
 known-points =
     record {
       bytes = refl;

@@ -2,11 +2,8 @@
 -- these theorems speak of the contract itself. Assumes nothing.
 use mathlib.Core.Path.{_≡_, sym, ap, _∙_}
 use mathlib.Core.List.{List}
-use Prim.Native.Nat.{ℕ}
-use contract.Lifetimes.{Lfts}
 use denote.Ref.{at-last}
-use denote.Triple.Clauses.{Lasts, AtExit, atExit}
-use borrow.Fn.Kinds.{PK, RK, Out, Dens, resT, endedOf}
+use Rattle.refusal.specs.OneAnswer.{OneAnswer, OneExit}
 use Rattle.tishkolan.specs.declared.told.RefusalTold.{RefusalTold}
 use Rattle.tishkolan.specs.Told.{Filled, filled}
 use Rattle.tishkolan.proofs.points.tishkolan_square_root.Kinds as square-root-kinds
@@ -31,18 +28,6 @@ use Rattle.tishkolan.proofs.points.tishkolan_lattice_distance.Kinds as 
 use Rattle.tishkolan.proofs.points.tishkolan_lattice_distance.Reads as lattice-distance
 use Rattle.tishkolan.proofs.points.tishkolan_lattice_manhattan_distance.Kinds as lattice-manhattan-distance-kinds
 use Rattle.tishkolan.proofs.points.tishkolan_lattice_manhattan_distance.Reads as lattice-manhattan-distance
-
-module _ (n : ℕ) (ps : List (PK n)) (r : RK n) (Post : Out n ps r) where
-  -- the arguments decide the answer
-  abbrev pub OneAnswer : Type 0
-  OneAnswer = (κs : Lfts n) (a : Dens κs ps) (z z′ : resT r κs .Denot) (e e′ : AtExit (endedOf n ps r) κs) → Post κs a z e → Post κs a z′ e′ → z ≡ z′
-
-  -- the arguments decide how they stand at the exit, lent memory with what it holds there: `last` is what a call leaves in it
-  abbrev pub OneExit : Type 0
-  OneExit =
-      let T = endedOf n ps r in
-      (κs : Lfts n) (a : Dens κs ps) (z z′ : resT r κs .Denot) (last last′ : Lasts T κs a)
-      → Post κs a z (atExit T κs a last) → Post κs a z′ (atExit T κs a last′) → atExit T κs a last ≡ atExit T κs a last′
 
 -- ---- a call that fills a lent buffer
 

@@ -27,7 +27,8 @@ use Rattle.tishkolan.proofs.cells.tishkolan_cell_distance.Kinds as dist
 use Rattle.tishkolan.proofs.cells.tishkolan_cell_distance.Reads as distance
 use Rattle.tishkolan.proofs.cells.tishkolan_cell_manhattan_distance.Kinds as manhattan-distance-kinds
 use Rattle.tishkolan.proofs.cells.tishkolan_cell_manhattan_distance.Reads as manhattan-distance
-use Rattle.tishkolan.proofs.OneAnswer.{OneAnswer, OneExit, same-told, same-out}
+use Rattle.refusal.specs.OneAnswer.{OneAnswer, OneExit}
+use Rattle.tishkolan.proofs.OneAnswer.{same-told, same-out}
 
 pub new-one : OneAnswer 1 new-kinds.ps new-kinds.r new.Post
 new-one κs a z z′ e e′ p q = same-told p q

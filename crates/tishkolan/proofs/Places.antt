@@ -13,7 +13,7 @@ use mir.Facts.{toZ-ofZ}
 use Rattle.refusal.specs.declared.Coord.{Coord}
 use Rattle.lattice.specs.declared.ParityAnswer.{ParityAnswer}
 use Rattle.lattice.specs.declared.ParityAnswer.the-variants.{Is, Refused}
-use Rattle.lattice.specs.Lattice.{at, parityOf, neighborSteps, around, hasNeighborRoom, neighborsIn, neighborsBy, neighborsOf, childSteps, below, hasChildRoom, childrenIn, childrenBy, childrenOf}
+use Rattle.lattice.specs.Lattice.{at, parityOf, neighborSteps, neighborPlaces, hasNeighborRoom, neighborsIn, neighborsBy, neighborsOf, childSteps, childPlaces, hasChildRoom, childrenIn, childrenBy, childrenOf}
 use Rattle.tishkolan.specs.Points.{triple}
 
 -- a place is that of its coordinates' bits
@@ -30,7 +30,7 @@ sets-three l p c =
 -- ---- how many there are, refused or not
 
 neighbors-in : (roomy : Bool) (c : Coord) → length (neighborsIn roomy c .coords) ≡ 14
-unfolding around neighborSteps
+unfolding neighborPlaces neighborSteps
 neighbors-in true c = refl
 neighbors-in false c = refl
 
@@ -43,7 +43,7 @@ unfolding neighborsOf
 neighbors-long c = neighbors-by (parityOf c) c
 
 children-in : (roomy : Bool) (c : Coord) → length (childrenIn roomy c .coords) ≡ 8
-unfolding below childSteps
+unfolding childPlaces childSteps
 children-in true c = refl
 children-in false c = refl
 

@@ -52,11 +52,11 @@ abbrev pub cellsBytes : List Cell → List ℕ
 cellsBytes cs = flatMap cellBytes cs
 
 -- a refusal leaves the buffer
-abbrev pub kept : List ℕ → Refusal → Filled ℕ
-kept out r = filled (toldOf r) out
+abbrev pub unfilled : List ℕ → Refusal → Filled ℕ
+unfilled out r = filled (toldOf r) out
 
 abbrev pub fillCell : List ℕ → CellAnswer → Filled ℕ
-fillCell out (Refused r) = kept out r
+fillCell out (Refused r) = unfilled out r
 fillCell out (Is c) = fill outcome.Answered (cellBytes c) out
 
 unfoldable pub newTold : ℕ → ℕ → Coord → ℕ → ℕ → List ℕ → Filled ℕ
@@ -65,19 +65,19 @@ newTold frame resolution c exponent flags out = fillCell out (newOf frame resolu
 
 unfoldable pub neighborsTold : List ℕ → List ℕ → Filled ℕ
 unfolding fromBytesOf neighborsOf flatMap cellBytes
-neighborsTold cell out = onCell (kept out) (λ c. let n = neighborsOf c in fill (n .outcome) (cellsBytes (n .cells)) out) cell
+neighborsTold cell out = onCell (unfilled out) (λ c. let n = neighborsOf c in fill (n .outcome) (cellsBytes (n .cells)) out) cell
 
 unfoldable pub childrenTold : List ℕ → List ℕ → Filled ℕ
 unfolding fromBytesOf childrenOf flatMap cellBytes
-childrenTold cell out = onCell (kept out) (λ c. let n = childrenOf c in fill (n .outcome) (cellsBytes (n .cells)) out) cell
+childrenTold cell out = onCell (unfilled out) (λ c. let n = childrenOf c in fill (n .outcome) (cellsBytes (n .cells)) out) cell
 
 unfoldable pub parentTold : List ℕ → List ℕ → Filled ℕ
 unfolding fromBytesOf parentOf cellBytes
-parentTold cell out = onCell (kept out) (λ c. fillCell out (parentOf c)) cell
+parentTold cell out = onCell (unfilled out) (λ c. fillCell out (parentOf c)) cell
 
 unfoldable pub ancestorTold : List ℕ → ℕ → List ℕ → Filled ℕ
 unfolding fromBytesOf ancestorOf cellBytes
-ancestorTold cell target out = onCell (kept out) (λ c. fillCell out (ancestorOf c target)) cell
+ancestorTold cell target out = onCell (unfilled out) (λ c. fillCell out (ancestorOf c target)) cell
 
 -- ---- what is read off a cell
 

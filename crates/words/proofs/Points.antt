@@ -2,7 +2,7 @@
 use mathlib.Core.Path.{_≡_, refl}
 use mathlib.Core.List.{List, [], _∷_}
 use Prim.Native.Nat.{ℕ}
-use Rattle.words.specs.Word.{big, little, digits, number, ordered, bytesOf, word, stored}
+use Rattle.words.specs.Word.{big, little, lowDigits, number, ordered, bytesOf, word, stored}
 
 bytes : List ℕ
 bytes = 9 ∷ 1 ∷ 2 ∷ 3 ∷ 4 ∷ 9 ∷ []
@@ -16,9 +16,9 @@ unfolding bytes word ordered number
 read-little = refl
 
 bytes-big : bytesOf big 4 16909060 ≡ 1 ∷ 2 ∷ 3 ∷ 4 ∷ []
-unfolding bytesOf ordered digits
+unfolding bytesOf ordered lowDigits
 bytes-big = refl
 
 stored-little : stored little 4 bytes 1 16909060 ≡ 9 ∷ 4 ∷ 3 ∷ 2 ∷ 1 ∷ 9 ∷ []
-unfolding bytes stored bytesOf ordered digits
+unfolding bytes stored bytesOf ordered lowDigits
 stored-little = refl

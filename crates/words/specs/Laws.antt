@@ -9,24 +9,24 @@ use native.Mathlib.Decide.{decLe}
 use native.Mathlib.Omega.{arith}
 use lib.ListN.{length, getD, set, take, drop, length-take, length-drop, length-reverse, take-append-drop}
 use lib.Seq.{take-all, getD-take, sets, length-sets, sets-eq, length-take-le, take-set-le, drop-set-lt, drop-set-add, getD-set-other, getD-drop, take-at, drop-at, take-take, take-add, drop-drop, take-append-le, drop-append-le, drop-append-add}
-use Rattle.words.specs.Word.{Order, big, little, digits, number, ordered, bytesOf, word, stored, Bytes, Apart}
+use Rattle.words.specs.Word.{Order, big, little, lowDigits, number, ordered, bytesOf, word, stored, Bytes, Apart}
 
 -- ---- digits in base 256
 
-length-digits : (n v : ℕ) → length (digits n v) ≡ n
-unfolding digits
+length-digits : (n v : ℕ) → length (lowDigits n v) ≡ n
+unfolding lowDigits
 length-digits zero v = refl
 length-digits (suc n) v = ap suc (length-digits n (v / 256))
 
-number-digits : (n v : ℕ) → v < 256 ^ n → number (digits n v) ≡ v
-unfolding digits number
+number-digits : (n v : ℕ) → v < 256 ^ n → number (lowDigits n v) ≡ v
+unfolding lowDigits number
 number-digits zero v h = omega arith
 number-digits (suc n) v h =
     let small : v < 256 ^ n * 256 = rw pow-suc at h in
     rw (number-digits n (v / 256) (div-lt-iff-lt-mul (omega arith) .1 small)) (mod-add-div v 256)
 
-digits-number : (l : List ℕ) → Bytes l → digits (length l) (number l) ≡ l
-unfolding digits number
+digits-number : (l : List ℕ) → Bytes l → lowDigits (length l) (number l) ≡ l
+unfolding lowDigits number
 digits-number [] b = refl
 digits-number (x ∷ l) b =
     let small = b 0 in
@@ -48,20 +48,20 @@ number-append [] m = omega arith
 number-append (x ∷ l) m =
     rw (number-append l m, pow-succ', mul-assoc 256 (256 ^ length l) (number m)) (omega arith)
 
-bytes-digits : (n v : ℕ) → Bytes (digits n v)
-unfolding digits
+bytes-digits : (n v : ℕ) → Bytes (lowDigits n v)
+unfolding lowDigits
 bytes-digits zero v i = omega arith
 bytes-digits (suc n) v zero = omega arith
 bytes-digits (suc n) v (suc i) = bytes-digits n (v / 256) i
 
-digits-append : (n m v : ℕ) → digits (n + m) v ≡ digits n v ++ digits m (v / 256 ^ n)
-unfolding digits
+digits-append : (n m v : ℕ) → lowDigits (n + m) v ≡ lowDigits n v ++ lowDigits m (v / 256 ^ n)
+unfolding lowDigits
 digits-append zero m v = rw (zero-add, div-one)
 digits-append (suc n) m v = rw (suc-add, digits-append n m (v / 256), div-div-eq-div-mul, pow-succ')
 
 -- what stands above the n digits does not matter
-digits-above : (n v w : ℕ) → digits n (v + 256 ^ n * w) ≡ digits n v
-unfolding digits
+digits-above : (n v w : ℕ) → lowDigits n (v + 256 ^ n * w) ≡ lowDigits n v
+unfolding lowDigits
 digits-above zero v w = refl
 digits-above (suc n) v w =
     let e : v + 256 ^ suc n * w ≡ v + 256 * (256 ^ n * w) = rw (pow-succ', mul-assoc) in
@@ -69,8 +69,8 @@ digits-above (suc n) v w =
     let high : (v + 256 * (256 ^ n * w)) / 256 ≡ v / 256 + 256 ^ n * w = omega arith in
     rw (e, low, high, digits-above n (v / 256) w)
 
-digits-mod : (n v : ℕ) → digits n (v % 256 ^ n) ≡ digits n v
-digits-mod n v = sym (digits-above n (v % 256 ^ n) (v / 256 ^ n)) ∙ ap (digits n) (mod-add-div v (256 ^ n))
+digits-mod : (n v : ℕ) → lowDigits n (v % 256 ^ n) ≡ lowDigits n v
+digits-mod n v = sym (digits-above n (v % 256 ^ n) (v / 256 ^ n)) ∙ ap (lowDigits n) (mod-add-div v (256 ^ n))
 
 -- ---- the order
 
@@ -145,11 +145,11 @@ sets-append l i (a ∷ r) s = rw (sets-append (set l i a) (suc i) r s, add-suc, 
 
 pub length-bytesOf : (o : Order) (n v : ℕ) → length (bytesOf o n v) ≡ n
 unfolding bytesOf
-length-bytesOf o n v = length-ordered o (digits n v) ∙ length-digits n v
+length-bytesOf o n v = length-ordered o (lowDigits n v) ∙ length-digits n v
 
 pub bytes-bytesOf : (o : Order) (n v : ℕ) → Bytes (bytesOf o n v)
 unfolding bytesOf
-bytes-bytesOf o n v = bytes-ordered o (digits n v) (bytes-digits n v)
+bytes-bytesOf o n v = bytes-ordered o (lowDigits n v) (bytes-digits n v)
 
 -- a number's bytes make it again
 pub word-bytesOf : (o : Order) (n v : ℕ) → v < 256 ^ n → word o n (bytesOf o n v) 0 ≡ v

@@ -11,9 +11,9 @@ pub data Order : Type 0 where
   little : Order
 
 -- the n lowest digits of v in base 256, the lowest first
-unfoldable pub digits : ℕ → ℕ → List ℕ
-digits zero v = []
-digits (suc n) v = v % 256 ∷ digits n (v / 256)
+unfoldable pub lowDigits : ℕ → ℕ → List ℕ
+lowDigits zero v = []
+lowDigits (suc n) v = v % 256 ∷ lowDigits n (v / 256)
 
 -- the number that digits in base 256 make, the lowest first
 unfoldable pub number : List ℕ → ℕ
@@ -27,7 +27,7 @@ ordered little l = l
 
 -- the n bytes of v
 unfoldable pub bytesOf : Order → ℕ → ℕ → List ℕ
-bytesOf o n v = ordered o (digits n v)
+bytesOf o n v = ordered o (lowDigits n v)
 
 -- the number that the n bytes at p make
 unfoldable pub word : Order → ℕ → List ℕ → ℕ → ℕ

@@ -11,7 +11,7 @@ use Rattle.refusal.specs.declared.Cell.{Cell}
 use Rattle.refusal.specs.declared.Outcome.the-variants.{Answered}
 use Rattle.lattice.proofs.ParityAnswer.{the-type}
 use Rattle.lattice.specs.declared.ParityAnswer.{ParityAnswer}
-use Rattle.lattice.specs.Lattice.{parityOf, hasChildRoom, below}
+use Rattle.lattice.specs.Lattice.{parityOf, hasChildRoom, childPlaces}
 use Rattle.cell.specs.Cell.{resolutionOf, coordOf, plainAt, childCells, childrenIn, childrenBy, childrenOf}
 use Rattle.lattice.proofs.Answers.{answered}
 use Rattle.cell.proofs.get_children.Statement.{statement}
@@ -63,8 +63,8 @@ frame-requires c κs = search needs
 add-plain8 : tie.Need-add-plain8
 add-plain8 c = search needs
 
-below-requires : tie.Need-below-requires
-below-requires c κs = sym (c .before .before .has-child-room .ensures) ∙ c .before .if2 .taken
+child-places-requires : tie.Need-child-places-requires
+child-places-requires c κs = sym (c .before .before .has-child-room .ensures) ∙ c .before .if2 .taken
 
 plain8-requires : tie.Need-plain8-requires
 plain8-requires c κs = search needs
@@ -88,7 +88,7 @@ returns-3 c =
     let at = told .before .before .before in
     let level = at .before .before in
     let place = at .before .coord .ensures in
-    let cells = c .plain8 .ensures ∙ (λ i. map (plainAt (near .before .frame .ensures i) (level .before .resolution .ensures i + 1)) ((near .below .ensures ∙ ap below place) i)) in
+    let cells = c .plain8 .ensures ∙ (λ i. map (plainAt (near .before .frame .ensures i) (level .before .resolution .ensures i + 1)) ((near .child-places .ensures ∙ ap childPlaces place) i)) in
     (λ i. record { outcome = Answered; cells = cells i })
     ∙ by-room (level .before .before .args .c) (level .before .resolution .ensures) (level .if1 .left) place (at .parity-of .ensures) (told .before .before .match .keys2) (told .has-child-room .ensures) (near .before .before .if2 .taken)
 
@@ -115,7 +115,7 @@ get-children-spec =
     has-child-room-requires
     frame-requires
     add-plain8
-    below-requires
+    child-places-requires
     plain8-requires
     no-children-requires-3
     returns-2

@@ -9,7 +9,7 @@ use Rattle.refusal.specs.declared.Cell.{Cell}
 use Rattle.refusal.specs.declared.Outcome.the-variants.{Answered}
 use Rattle.lattice.proofs.ParityAnswer.{the-type}
 use Rattle.lattice.specs.declared.ParityAnswer.{ParityAnswer}
-use Rattle.lattice.specs.Lattice.{parityOf, hasNeighborRoom, around}
+use Rattle.lattice.specs.Lattice.{parityOf, hasNeighborRoom, neighborPlaces}
 use Rattle.cell.specs.Cell.{coordOf, plainAt, nearCells, neighborsIn, neighborsBy, neighborsOf}
 use Rattle.lattice.proofs.Answers.{answered}
 use Rattle.cell.proofs.get_neighbors.Statement.{statement}
@@ -49,8 +49,8 @@ frame-requires c κs = search needs
 resolution-requires : tie.Need-resolution-requires
 resolution-requires c κs = search needs
 
-around-requires : tie.Need-around-requires
-around-requires c κs = sym (c .before .before .before .has-neighbor-room .ensures) ∙ c .before .before .if1 .taken
+neighbor-places-requires : tie.Need-neighbor-places-requires
+neighbor-places-requires c κs = sym (c .before .before .before .has-neighbor-room .ensures) ∙ c .before .before .if1 .taken
 
 plain14-requires : tie.Need-plain14-requires
 plain14-requires c κs = search needs
@@ -74,7 +74,7 @@ returns-2 c =
     let at = told .before .before .before in
     let place = at .before .coord in
     let fields = near .before in
-    let cells = c .plain14 .ensures ∙ (λ i. map (plainAt (fields .before .frame .ensures i) (fields .resolution .ensures i)) ((near .around .ensures ∙ ap around (place .ensures)) i)) in
+    let cells = c .plain14 .ensures ∙ (λ i. map (plainAt (fields .before .frame .ensures i) (fields .resolution .ensures i)) ((near .neighbor-places .ensures ∙ ap neighborPlaces (place .ensures)) i)) in
     (λ i. record { outcome = Answered; cells = cells i })
     ∙ by-room (at .before .before .args .c) (place .ensures) (at .parity-of .ensures) (told .before .before .match .keys2) (told .has-neighbor-room .ensures) (near .before .before .before .if1 .taken)
 
@@ -97,7 +97,7 @@ get-neighbors-spec =
     has-neighbor-room-requires
     frame-requires
     resolution-requires
-    around-requires
+    neighbor-places-requires
     plain14-requires
     no-neighbors-requires-2
     returns

@@ -37,8 +37,8 @@ enum-told c = search needs
 has-child-room-requires : tie.Need-has-child-room-requires
 has-child-room-requires c κs = search needs
 
-below-requires : tie.Need-below-requires
-below-requires c κs = sym (c .before .has-child-room .ensures) ∙ c .if1 .taken
+child-places-requires : tie.Need-child-places-requires
+child-places-requires c κs = sym (c .before .has-child-room .ensures) ∙ c .if1 .taken
 
 no-children-requires-2 : tie.Need-no-children-requires-2
 no-children-requires-2 c κs = search needs
@@ -55,7 +55,7 @@ returns-2 c =
     let told = c .before .before in
     let parity = told .before .before .before .parity-of in
     let place = told .before .before .before .before .args .c in
-    (λ i. record { outcome = Answered; coords = c .below .ensures i })
+    (λ i. record { outcome = Answered; coords = c .child-places .ensures i })
     ∙ sym (by-room place (parity .result) _ (sym (parity .ensures)) (told .before .before .match .keys2) (sym (told .has-child-room .ensures) ∙ c .before .if1 .taken))
 
 returns-3 : tie.Need-returns-3
@@ -75,7 +75,7 @@ get-children-spec =
     no-children-requires
     enum-told
     has-child-room-requires
-    below-requires
+    child-places-requires
     no-children-requires-2
     returns
     returns-2

@@ -37,8 +37,8 @@ enum-told c = search needs
 has-neighbor-room-requires : tie.Need-has-neighbor-room-requires
 has-neighbor-room-requires c κs = search needs
 
-around-requires : tie.Need-around-requires
-around-requires c κs = sym (c .before .has-neighbor-room .ensures) ∙ c .if1 .taken
+neighbor-places-requires : tie.Need-neighbor-places-requires
+neighbor-places-requires c κs = sym (c .before .has-neighbor-room .ensures) ∙ c .if1 .taken
 
 no-neighbors-requires-2 : tie.Need-no-neighbors-requires-2
 no-neighbors-requires-2 c κs = search needs
@@ -55,7 +55,7 @@ returns-2 c =
     let told = c .before .before in
     let parity = told .before .before .before .parity-of in
     let place = told .before .before .before .before .args .c in
-    (λ i. record { outcome = Answered; coords = c .around .ensures i })
+    (λ i. record { outcome = Answered; coords = c .neighbor-places .ensures i })
     ∙ sym (by-room place (parity .result) _ (sym (parity .ensures)) (told .before .before .match .keys2) (sym (told .has-neighbor-room .ensures) ∙ c .before .if1 .taken))
 
 returns-3 : tie.Need-returns-3
@@ -75,7 +75,7 @@ get-neighbors-spec =
     no-neighbors-requires
     enum-told
     has-neighbor-room-requires
-    around-requires
+    neighbor-places-requires
     no-neighbors-requires-2
     returns
     returns-2

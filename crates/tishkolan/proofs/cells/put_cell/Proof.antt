@@ -8,7 +8,7 @@ use native.Mathlib.Nat.{zero-add}
 use lib.ListN.{length, drop}
 use lib.Seq.{sets-eq}
 use Rattle.cell.specs.Bytes.{cellBytes}
-use Rattle.cell.specs.Stored.{length-cellBytes, cell-stored}
+use Rattle.cell.specs.Stored.{length-cellBytes, cell-stored-sets}
 use Rattle.tishkolan.specs.Told.{filled}
 use Rattle.tishkolan.specs.Cells.{fillCell}
 use Rattle.tishkolan.proofs.Writing.{fill-no-room, fill-front}
@@ -57,7 +57,7 @@ returns-3 c =
     let known = start .before .a2 .given in
     let bytes = cellBytes (known .0 .0) in
     let size : length bytes ≡ 16 = length-cellBytes (known .0 .0) in
-    let stored = cell-stored out 0 (known .0 .0) ∙ sets-eq bytes out 0 (omega arith) ∙ ap (λ (n : ℕ). bytes ++ drop n out) (zero-add (length bytes)) in
+    let stored = cell-stored-sets out 0 (known .0 .0) ∙ sets-eq bytes out 0 (omega arith) ∙ ap (λ (n : ℕ). bytes ++ drop n out) (zero-add (length bytes)) in
     fill-front bytes out refl (omega arith) (c .answered .ensures) (c .before .before .before .write-at .ensures ∙ stored)
     ∙ sym (ap (fillCell out) (known .1))
 

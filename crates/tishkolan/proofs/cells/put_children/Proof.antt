@@ -4,7 +4,7 @@ use native.Mathlib.Omega.{arith}
 use Prim.Native.Nat.{_-_}
 use mathlib.Core.Path.{_∙_}
 use Rattle.cell.specs.Bytes.{cellBytes}
-use Rattle.cell.specs.Stored.{length-cellBytes, cell-stored}
+use Rattle.cell.specs.Stored.{length-cellBytes, cell-stored-sets}
 use Rattle.tishkolan.proofs.Writing.{Written, written-none, written-length, written-room, written-more, written-all}
 use Rattle.tishkolan.proofs.cells.put_children.Statement.{statement}
 use Rattle.tishkolan.proofs.cells.put_children.Tie as tie
@@ -37,7 +37,7 @@ loop-less : tie.Need-loop-less Inv-loop μ-loop
 loop-less c = search needs
 
 loop-again : tie.Need-loop-again Inv-loop μ-loop
-loop-again c = written-more length-cellBytes (c .before .before .before .before .before .before .loop .inv) (record { high = 0; low = 0 }) (omega arith) (c .before .before .write-at .ensures ∙ cell-stored _ _ _)
+loop-again c = written-more length-cellBytes (c .before .before .before .before .before .before .loop .inv) (record { high = 0; low = 0 }) (omega arith) (c .before .before .write-at .ensures ∙ cell-stored-sets _ _ _)
 
 same-length : tie.Need-same-length Inv-loop μ-loop
 same-length c = written-length length-cellBytes (c .before .loop .inv)

@@ -7,14 +7,14 @@ use Rattle.cell.specs.declared.CellAnswer.{CellAnswer}
 use Rattle.cell.specs.Bytes.{fromBytesOf}
 use Rattle.cell.specs.Cell.{ancestorOf}
 use Rattle.tishkolan.specs.Told.{filled}
-use Rattle.tishkolan.specs.Cells.{byCell, kept, fillCell, ancestorTold}
+use Rattle.tishkolan.specs.Cells.{byCell, unfilled, fillCell, ancestorTold}
 use Rattle.tishkolan.proofs.Given.{on-cell}
 use Rattle.tishkolan.proofs.cells.tishkolan_cell_ancestor.Statement.{statement}
 use Rattle.tishkolan.proofs.cells.tishkolan_cell_ancestor.Tie as tie
 
-by-cell : (l : List ℕ) (target : ℕ) (out : List ℕ) {a b : CellAnswer} → a ≡ fromBytesOf l → a ≡ b → byCell (kept out) (λ d. fillCell out (ancestorOf d target)) b ≡ ancestorTold l target out
+by-cell : (l : List ℕ) (target : ℕ) (out : List ℕ) {a b : CellAnswer} → a ≡ fromBytesOf l → a ≡ b → byCell (unfilled out) (λ d. fillCell out (ancestorOf d target)) b ≡ ancestorTold l target out
 unfolding ancestorTold
-by-cell l target out = on-cell (kept out) (λ d. fillCell out (ancestorOf d target)) l
+by-cell l target out = on-cell (unfilled out) (λ d. fillCell out (ancestorOf d target)) l
 
 from-bytes-requires : tie.Need-from-bytes-requires
 from-bytes-requires c κs = search needs

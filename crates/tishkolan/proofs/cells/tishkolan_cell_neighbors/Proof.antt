@@ -11,7 +11,7 @@ use Rattle.cell.specs.Cell.{neighborsOf}
 use Rattle.cell.specs.Bytes.{cellBytes, fromBytesOf}
 use Rattle.cell.specs.Stored.{length-cellBytes}
 use Rattle.tishkolan.specs.Told.{Filled, filled, fill}
-use Rattle.tishkolan.specs.Cells.{byCell, kept, cellsBytes, neighborsTold}
+use Rattle.tishkolan.specs.Cells.{byCell, unfilled, cellsBytes, neighborsTold}
 use Rattle.tishkolan.proofs.Given.{on-cell}
 use Rattle.tishkolan.proofs.Found.{neighbors-long}
 use Rattle.tishkolan.proofs.Writing.{length-flatMap, fill-refused, fill-no-room, fill-front}
@@ -21,9 +21,9 @@ use Rattle.tishkolan.proofs.cells.tishkolan_cell_neighbors.Tie as tie
 abbrev put : List ℕ → Neighbors → Filled ℕ
 put out n = fill (n .outcome) (cellsBytes (n .cells)) out
 
-by-cell : (l out : List ℕ) {a b : CellAnswer} → a ≡ fromBytesOf l → a ≡ b → byCell (kept out) (λ d. put out (neighborsOf d)) b ≡ neighborsTold l out
+by-cell : (l out : List ℕ) {a b : CellAnswer} → a ≡ fromBytesOf l → a ≡ b → byCell (unfilled out) (λ d. put out (neighborsOf d)) b ≡ neighborsTold l out
 unfolding neighborsTold
-by-cell l out = on-cell (kept out) (λ d. put out (neighborsOf d)) l
+by-cell l out = on-cell (unfilled out) (λ d. put out (neighborsOf d)) l
 
 by-found : (c : tie.After-get-neighbors) → put (c .before .before .before .before .before .before .before .args .out .now) (c .get-neighbors .result) ≡ neighborsTold (c .before .before .before .before .before .before .before .args .cell .now) (c .before .before .before .before .before .before .before .args .out .now)
 by-found c =

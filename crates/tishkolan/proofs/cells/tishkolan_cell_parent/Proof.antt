@@ -7,14 +7,14 @@ use Rattle.cell.specs.declared.CellAnswer.{CellAnswer}
 use Rattle.cell.specs.Bytes.{fromBytesOf}
 use Rattle.cell.specs.Cell.{parentOf}
 use Rattle.tishkolan.specs.Told.{filled}
-use Rattle.tishkolan.specs.Cells.{byCell, kept, fillCell, parentTold}
+use Rattle.tishkolan.specs.Cells.{byCell, unfilled, fillCell, parentTold}
 use Rattle.tishkolan.proofs.Given.{on-cell}
 use Rattle.tishkolan.proofs.cells.tishkolan_cell_parent.Statement.{statement}
 use Rattle.tishkolan.proofs.cells.tishkolan_cell_parent.Tie as tie
 
-by-cell : (l out : List ℕ) {a b : CellAnswer} → a ≡ fromBytesOf l → a ≡ b → byCell (kept out) (λ d. fillCell out (parentOf d)) b ≡ parentTold l out
+by-cell : (l out : List ℕ) {a b : CellAnswer} → a ≡ fromBytesOf l → a ≡ b → byCell (unfilled out) (λ d. fillCell out (parentOf d)) b ≡ parentTold l out
 unfolding parentTold
-by-cell l out = on-cell (kept out) (λ d. fillCell out (parentOf d)) l
+by-cell l out = on-cell (unfilled out) (λ d. fillCell out (parentOf d)) l
 
 from-bytes-requires : tie.Need-from-bytes-requires
 from-bytes-requires c κs = search needs

@@ -4,10 +4,10 @@ use mathlib.Core.Path.{sym, subst, _∙_, ap}
 use mathlib.Core.List.{[], _∷_, map}
 use lib.ListN.{getD}
 use Rattle.refusal.specs.declared.Coord.{Coord}
-use Rattle.lattice.specs.Lattice.{origin, moved, Fitting, childSteps, below}
+use Rattle.lattice.specs.Lattice.{origin, moved, Fitting, childSteps, childPlaces}
 use Rattle.lattice.proofs.Room.{twice, lower}
-use Rattle.lattice.proofs.below.Statement.{statement}
-use Rattle.lattice.proofs.below.Tie as tie
+use Rattle.lattice.proofs.child_places.Statement.{statement}
+use Rattle.lattice.proofs.child_places.Tie as tie
 
 doubled-requires : tie.Need-doubled-requires
 doubled-requires c κs = twice (c .args .c) (c .pre)
@@ -50,7 +50,7 @@ unfolding childSteps
 moved-requires-8 c κs = step (c .before .before .before .before .before .before .before) 7
 
 returns : tie.Need-returns
-unfolding childSteps below
+unfolding childSteps childPlaces
 returns c =
     (λ i.
     (c .before .before .before .before .before .before .before .moved .ensures) i
@@ -64,8 +64,8 @@ returns c =
     ∷ [])
     ∙ ap (λ (p : Coord). map (moved p) childSteps) (c .before .before .before .before .before .before .before .before .doubled .ensures)
 
-pub below-spec : {M : Type 1} → statement M
-below-spec =
+pub child-places-spec : {M : Type 1} → statement M
+child-places-spec =
     tie.close
     (tie.spec
     doubled-requires

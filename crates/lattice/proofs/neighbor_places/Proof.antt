@@ -2,10 +2,10 @@
 use Prim.Native.Nat.{ℕ}
 use mathlib.Core.List.{[], _∷_}
 use lib.ListN.{getD}
-use Rattle.lattice.specs.Lattice.{origin, moved, Fitting, neighborSteps, around}
+use Rattle.lattice.specs.Lattice.{origin, moved, Fitting, neighborSteps, neighborPlaces}
 use Rattle.lattice.proofs.Room.{near}
-use Rattle.lattice.proofs.around.Statement.{statement}
-use Rattle.lattice.proofs.around.Tie as tie
+use Rattle.lattice.proofs.neighbor_places.Statement.{statement}
+use Rattle.lattice.proofs.neighbor_places.Tie as tie
 
 step : (c : tie.Start) (k : ℕ) → Fitting (moved (c .args .c) (getD neighborSteps k origin))
 step c k = near (c .args .c) (c .pre) k
@@ -67,7 +67,7 @@ unfolding neighborSteps
 moved-requires-14 c κs = step (c .before .before .before .before .before .before .before .before .before .before .before .before .before) 13
 
 returns : tie.Need-returns
-unfolding neighborSteps around
+unfolding neighborSteps neighborPlaces
 returns c =
     (λ i.
     (c .before .before .before .before .before .before .before .before .before .before .before .before .before .moved .ensures) i
@@ -86,8 +86,8 @@ returns c =
     ∷ (c .moved14 .ensures) i
     ∷ [])
 
-pub around-spec : {M : Type 1} → statement M
-around-spec =
+pub neighbor-places-spec : {M : Type 1} → statement M
+neighbor-places-spec =
     tie.close
     (tie.spec
     moved-requires
