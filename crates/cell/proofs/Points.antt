@@ -1,17 +1,14 @@
--- Known points of the scope document, by computation, and a few beside them. Assumes nothing.
+-- Points of the packed cell, by computation. The known points of the scope document stand in one table, in the top crate. Assumes nothing.
 use mathlib.Core.Path.{_≡_, refl}
-use mathlib.Core.List.{[], _∷_}
 use lib.IntN.{pos, negsuc}
 use Rattle.refusal.specs.declared.Cell.{Cell}
 use Rattle.refusal.specs.declared.Refusal.the-variants.{NoParent}
 use Rattle.lattice.specs.Lattice as lattice
 use Rattle.lattice.specs.Lattice.{at, isLatticePoint, parityOf}
-use Rattle.words.specs.Word.{lowDigits, ordered, bytesOf}
 use Rattle.cell.specs.declared.CellAnswer.the-variants.{Is, Refused}
 use Rattle.cell.specs.Cell.{coordOf, exponentOf, packed, newOf, plainAt, parentOf, climbed, ancestorOf}
-use Rattle.cell.specs.Bytes.{cellBytes}
 
--- "fields (0,3), (1,-1,1), exponent 28, flags 165: 00000001 FFFFFFFF 00000001 0A5C0300"
+-- the cell of the document's fields (0,3), (1,-1,1), exponent 28, flags 165, as words
 abbrev known : Cell
 known = record { high = 0x00000001_FFFFFFFF; low = 0x00000001_0A5C0300 }
 
@@ -19,16 +16,11 @@ pub packs : newOf 0 3 (at (pos 1) (negsuc 0) (pos 1)) 28 165 ≡ Is known
 unfolding newOf isLatticePoint parityOf packed
 packs = refl
 
--- and its bytes
-pub writes : cellBytes known ≡ 0 ∷ 0 ∷ 0 ∷ 1 ∷ 255 ∷ 255 ∷ 255 ∷ 255 ∷ 0 ∷ 0 ∷ 0 ∷ 1 ∷ 0x0A ∷ 0x5C ∷ 3 ∷ 0 ∷ []
-unfolding cellBytes bytesOf lowDigits ordered
-writes = refl
-
 -- of the exponent 28 is kept
 pub keeps : exponentOf known ≡ 12
 keeps = refl
 
--- "(-3,1,-1) to (-2,0,0)"
+-- the parent of a cell with exponent and flags is plain
 pub up-one : parentOf (packed 7 3 (at (negsuc 2) (pos 1) (negsuc 0)) 5 6) ≡ Is (plainAt 7 2 (at (negsuc 1) (pos 0) (pos 0)))
 unfolding parentOf coordOf lattice.parentOf isLatticePoint parityOf packed
 up-one = refl

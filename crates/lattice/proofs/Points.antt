@@ -1,25 +1,13 @@
--- The known points of the scope document, and the ends of its ranges, by computation. Assumes nothing.
+-- The ends of the ranges, by computation. The known points of the scope document stand in one table, in the top crate. Assumes nothing.
 use mathlib.Core.Path.{_≡_, refl}
 use mathlib.Core.List.{[], _∷_, map}
 use lib.IntN.{pos, negsuc}
 use Rattle.refusal.specs.declared.Coord.{Coord}
-use Rattle.refusal.specs.declared.Refusal.the-variants.{InvalidParity, CoordOverflow}
+use Rattle.refusal.specs.declared.Refusal.the-variants.{CoordOverflow}
 use Rattle.refusal.specs.declared.Outcome.{Outcome}
 use Rattle.refusal.specs.declared.Outcome.the-variants.{Answered, Refused}
-use Rattle.lattice.specs.declared.ParityAnswer.the-variants as parity
-use Rattle.lattice.specs.declared.CoordAnswer.the-variants.{At}
 use Rattle.lattice.specs.declared.NumberAnswer.the-variants as number
-use Rattle.lattice.specs.Lattice.{at, origin, isLatticePoint, parityOf, hasNeighborRoom, neighborPlaces, neighborSteps, neighborsOf, hasChildRoom, childPlaces, childSteps, childrenOf, parentOf, manhattan, manhattanOf}
-
--- (0, 1, 0) is mixed
-pub mixed : parityOf (at (pos 0) (pos 1) (pos 0)) ≡ parity.Refused (InvalidParity (at (pos 0) (pos 1) (pos 0)))
-unfolding parityOf isLatticePoint
-mixed = refl
-
--- (4, 2, 2) to (1, 1, 1); (-2, 0, 0) to (-2, 0, 0); (-3, 1, -1) to (-2, 0, 0)
-pub parents : map parentOf (at (pos 4) (pos 2) (pos 2) ∷ at (negsuc 1) (pos 0) (pos 0) ∷ at (negsuc 2) (pos 1) (negsuc 0) ∷ []) ≡ At (at (pos 1) (pos 1) (pos 1)) ∷ At (at (negsuc 1) (pos 0) (pos 0)) ∷ At (at (negsuc 1) (pos 0) (pos 0)) ∷ []
-unfolding parentOf parityOf isLatticePoint
-parents = refl
+use Rattle.lattice.specs.Lattice.{at, origin, isLatticePoint, parityOf, hasNeighborRoom, neighborPlaces, neighborSteps, neighborsOf, hasChildRoom, childPlaces, childSteps, childrenOf, manhattan, manhattanOf}
 
 abbrev around-of : Coord → Outcome
 around-of c = neighborsOf c .outcome

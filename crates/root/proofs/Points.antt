@@ -1,14 +1,9 @@
--- Points of the root that the documents name, each by computation. Assumes nothing.
+-- The ends of the range and what has no root, by computation. The known point of the scope document stands in one table with the others, in the top crate. Assumes nothing.
 use mathlib.Core.Path.{_≡_, refl}
 use lib.Ieee.{ofBits, toBits}
 use Rattle.refusal.specs.declared.Refusal.the-variants.{OutOfRange}
 use Rattle.root.specs.declared.RootBits.{RootBits}
 use Rattle.root.specs.Root.{rootBitsOf}
-
--- 3.0
-root-of-three : rootBitsOf 0x4008_0000_0000_0000 ≡ RootBits.Bits 0x3FFB_B67A_E858_4CAA
-unfolding rootBitsOf ofBits toBits
-root-of-three = refl
 
 -- +0.0
 root-of-zero : rootBitsOf 0 ≡ RootBits.Bits 0

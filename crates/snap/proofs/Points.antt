@@ -1,4 +1,4 @@
--- The known points of the scope document, and the ends of its range, by computation. Assumes nothing.
+-- The ends of the range and what is no number, by computation. The known points of the scope document stand in one table, in the top crate. Assumes nothing.
 use mathlib.Core.Path.{_≡_, refl}
 use mathlib.Core.Bool.{true, false}
 use lib.IntN.{pos, negsuc}
@@ -12,29 +12,6 @@ use Rattle.snap.specs.Snap.{point, snapOf, physicalOf, physicalBitsOf}
 
 abbrev nought : Float
 nought = fin false 0 (pos 0)
-
-abbrev half : Float
-half = fin false 1 (negsuc 0)
-
--- (0.5, 0.5, 0.5) is as near to (0, 0, 0) as to (1, 1, 1): the even point
-pub tie : snapOf (point half half half) 0 ≡ At (at (pos 0) (pos 0) (pos 0))
-unfolding snapOf
-tie = refl
-
--- (-1, 0, 0) is as near to (-2, 0, 0) as to (0, 0, 0): away from zero
-pub away : snapOf (point (fin true 1 (pos 0)) nought nought) 0 ≡ At (at (negsuc 1) (pos 0) (pos 0))
-unfolding snapOf
-away = refl
-
--- the end of the range stands
-pub last : snapOf (point (fin false 1073741823 (pos 1)) nought nought) 0 ≡ At (at (pos 2147483646) (pos 0) (pos 0))
-unfolding snapOf
-last = refl
-
--- 2147483646.5 is past it
-pub past : snapOf (point (fin false 4294967293 (negsuc 0)) nought nought) 0 ≡ Refused OutOfRange
-unfolding snapOf
-past = refl
 
 pub last-below : snapOf (point nought nought (fin true 1073741823 (pos 1))) 0 ≡ At (at (pos 0) (pos 0) (negsuc 2147483645))
 unfolding snapOf
