@@ -1,11 +1,9 @@
 // The Rust oracle's answers, replayed: a list of records, each with a call of the C face, its arguments and what the oracle said to them.
 // The call is made anew and must say the same. vectors/src/main.rs has the format of a record and the numbers of the calls.
-ghost use mathlib.Core.Path.{_≡_};
 ghost use Prim.Native.Nat.{_+_, _≤_, _<_};
 ghost use lib.ListN.{length};
-ghost use mir.Syntax.{w32};
-ghost use mir.Val.{toZ};
 ghost use Rattle.answers.specs.Counted.{Counted};
+use cell::twos;
 use tishkolan::cells;
 use tishkolan::points;
 use tishkolan::told;
@@ -41,21 +39,10 @@ fn small(byte: u8) -> usize
     byte as usize
 }
 
-// The number of these two's complement bits.
-fn signed(bits: u32) -> i32
-    ensures { λ r. ⌜ r ≡ toZ w32 bits ⌝ }
-{
-    if bits < 2147483648 {
-        bits as i32
-    } else {
-        (bits - 2147483648) as i32 + (-2147483648)
-    }
-}
-
 fn number(record: &[u8; 64], at: usize) -> i32
     requires { ⌜ at + 4 ≤ 64 ⌝ }
 {
-    signed(words::read32_big(record, at))
+    twos::of_bits(words::read32_big(record, at))
 }
 
 // The bits of a double.

@@ -7,7 +7,7 @@ ghost use Rattle.lattice.specs.Lattice.{at};
 ghost use Rattle.cell.specs.Bytes.{cellAt, cellBytes, cellStored, fromBytesOf};
 ghost use Rattle.cell.specs.Cell.{frameOf, resolutionOf, exponentOf, flagsOf, reservedOf, xOf, yOf, zOf, coordOf, packed, newOf, latticeCoordOf, isPlain, sameCell, lessCell, orderOf, plainAt, noNeighbors, neighborsOf, noChildren, childrenOf, parentOf, ancestorOf, alike, betweenOf, manhattanCells, distanceCells};
 
-mod twos;
+pub mod twos;
 
 use distance::DistanceAnswer;
 use lattice::CoordAnswer;
