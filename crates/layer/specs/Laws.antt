@@ -7,16 +7,18 @@ use native.Mathlib.Numerals.{add-one}
 use mathlib.Core.Logic.{⊎-elim}
 use native.Mathlib.Nat.{eq-or-lt-of-le, min-le-right, mul-div-le, mul-le-mul-left, mul-suc}
 use native.Mathlib.Omega.{arith}
-use borrow.Author.Tests.{leb-true}
-use lib.Dec.{leb}
+use borrow.Author.Tests.{leb-true, ltb-true, ltb-false, eqb-true, ne-eqb}
+use lib.Dec.{leb, ltb}
 use lib.ListN.{length}
 use Rattle.refusal.specs.declared.Cell.{Cell}
+use Rattle.refusal.specs.Table.{rawOf}
 use Rattle.words.specs.Word.{big, word}
 use Rattle.cell.specs.Cell.{sameCell, lessCell}
 use Rattle.cell.specs.Bytes.{cellAt}
 use Rattle.cell.specs.Laws.{less-transitive}
-use Rattle.layer.specs.Layer.{mostCells, roomFor, rowAt, rowsFrom, rowsOf, ascending, isSound}
-use Rattle.layer.specs.Places.{Wide}
+use Rattle.layer.specs.Layer.{mostCells, roomFor, rowAt, rowsFrom, rowsOf, ascending, isSound, held, nothing, heldOf}
+use Rattle.layer.specs.declared.Place.the-variants.{At, Before}
+use Rattle.layer.specs.Places.{Stands}
 
 both : (s t : Bool) → s && t ≡ true → (s ≡ true) × (t ≡ true)
 both true true e = (refl, refl)
@@ -94,3 +96,43 @@ module _ (w : ℕ) (l : List ℕ) where
   row-within n i h b =
       let room : suc i ≤ length l / w = omega (arith, min-le-right mostCells (length l / w)) in
       omega (arith, mul-suc w i, mul-le-mul-left w room, mul-div-le (length l) w)
+
+-- ---- what is kept of a cell that was searched for
+
+module _ (w : ℕ) (l : List ℕ) (c : Cell) where
+  -- of the n records from i on, k is the first of the cell's
+  first-held : (n i k : ℕ) → i ≤ k → k < i + n → ((j : ℕ) → j < k → sameCell (rowAt w l j .cell) c ≡ false) → sameCell (rowAt w l k .cell) c ≡ true → heldOf c (rowsFrom w l i n) ≡ held (rowAt w l k .kept)
+  unfolding rowsFrom heldOf
+  first-held zero i k a b before e = absurd (omega arith)
+  first-held (suc n) i k a b before e =
+      ⊎-elim
+      (λ (q : i ≡ k). ap (λ (t : Bool). cond t (held (rowAt w l i .kept)) (heldOf c (rowsFrom w l (suc i) n))) (ap (λ (j : ℕ). sameCell (rowAt w l j .cell) c) q ∙ e) ∙ ap (λ (j : ℕ). held (rowAt w l j .kept)) q)
+      (λ (q : i < k). ap (λ (t : Bool). cond t (held (rowAt w l i .kept)) (heldOf c (rowsFrom w l (suc i) n))) (before i q) ∙ first-held n (suc i) k (omega arith) (omega arith) before e)
+      (eq-or-lt-of-le a)
+
+  -- none of the n records from i on is the cell's
+  none-held : (n i : ℕ) → ((k : ℕ) → k < i + n → sameCell (rowAt w l k .cell) c ≡ false) → heldOf c (rowsFrom w l i n) ≡ nothing
+  unfolding rowsFrom heldOf
+  none-held zero i h = refl
+  none-held (suc n) i h = ap (λ (t : Bool). cond t (held (rowAt w l i .kept)) (heldOf c (rowsFrom w l (suc i) n))) (h i (omega arith)) ∙ none-held n (suc i) (λ k b. h k (omega arith))
+
+  -- where the search finds a cell, what is kept there is what the layer holds of it
+  pub find-is-held : (n i : ℕ) → isSound w l n ≡ true → Stands w l n c (At i) → heldOf c (rowsOf w l n) ≡ held (rowAt w l i .kept)
+  unfolding rowsOf Stands
+  find-is-held n i sound s = first-held n 0 i (omega arith) (omega (arith, s .within)) (λ j h. differs j h) (s .same)
+    where
+      differs : (j : ℕ) → j < i → sameCell (rowAt w l j .cell) c ≡ false
+      differs j h =
+          let d = rowAt w l j .cell in
+          let here = rowAt w l i .cell in
+          ne-eqb (rawOf d) (rawOf c)
+          (λ q. omega (arith, eqb-true (rawOf here) (rawOf c) (s .same), ltb-true (rawOf d) (rawOf here) (sound-less w l n sound i j h (s .within))))
+
+  -- where it does not, the layer holds nothing of it
+  pub find-is-nothing : (n i : ℕ) → Stands w l n c (Before i) → heldOf c (rowsOf w l n) ≡ nothing
+  unfolding rowsOf Stands
+  find-is-nothing n i s = none-held n 0 (λ k h. ne-eqb (rawOf (rowAt w l k .cell)) (rawOf c) (differs k (omega arith) (ltb k i) refl))
+    where
+      differs : (k : ℕ) → k < n → (t : Bool) → ltb k i ≡ t → rawOf (rowAt w l k .cell) ≡ rawOf c → ⊥
+      differs k h true e q = omega (arith, ltb-true (rawOf (rowAt w l k .cell)) (rawOf c) (s .below k (ltb-true k i e)))
+      differs k h false e q = omega (arith, ltb-true (rawOf c) (rawOf (rowAt w l k .cell)) (s .above k (ltb-false k i e) h))
