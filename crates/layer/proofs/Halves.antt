@@ -1,19 +1,21 @@
 -- The search by halves: what is known of the records on either side of those that are left. Assumes nothing.
-use mathlib.Core.Path.{_≡_, refl, sym, ap, subst, _∙_}
+use mathlib.Core.Path.{_≡_, sym, ap, subst, _∙_}
 use mathlib.Core.Bool.{Bool, true, false}
 use mathlib.Core.List.{List}
 use mathlib.Core.Logic.{⊎-elim}
-use Prim.Native.Nat.{ℕ, zero, suc, _+_, _≤_, _<_}
+use Prim.Native.Nat.{ℕ, _+_, _-_, _*_, _/_, _≤_, _<_}
 use native.Mathlib.Nat.{eq-or-lt-of-le}
 use native.Mathlib.Omega.{arith}
-use borrow.Author.Tests.{ltb-true, ltb-false, eqb-false, lt-ltb}
+use borrow.Author.Tests.{ltb-false, eqb-false, lt-ltb}
+use lib.ListN.{length}
 use Rattle.refusal.specs.declared.Cell.{Cell}
 use Rattle.refusal.specs.Table.{rawOf}
 use Rattle.cell.specs.Cell.{sameCell, lessCell}
+use Rattle.cell.specs.Bytes.{cellAt}
 use Rattle.cell.specs.Laws.{less-transitive}
 use Rattle.layer.specs.Layer.{rowAt, isSound}
 use Rattle.layer.specs.Places.{GoesBefore}
-use Rattle.layer.specs.Laws.{sound-less}
+use Rattle.layer.specs.Laws.{row-cell, row-within, sound-room, sound-less}
 
 -- the records before `low` are below the cell, those from `high` on above it
 pub record Left (w : ℕ) (l : List ℕ) (n : ℕ) (c : Cell) (low high : ℕ) : Type 0 where
@@ -21,6 +23,18 @@ pub record Left (w : ℕ) (l : List ℕ) (n : ℕ) (c : Cell) (low high : ℕ) :
   pub within : high ≤ n
   pub below : (k : ℕ) → k < low → lessCell (rowAt w l k .cell) c ≡ true
   pub above : (k : ℕ) → high ≤ k → k < n → lessCell c (rowAt w l k .cell) ≡ true
+
+-- the record that is looked at
+abbrev pub middle : ℕ → ℕ → ℕ
+middle low high = low + (high - low) / 2
+
+-- it lies within the table
+pub middle-within : (w : ℕ) (l : List ℕ) (n : ℕ) (c : Cell) (low high : ℕ) → isSound w l n ≡ true → Left w l n c low high → low < high → w * middle low high + w ≤ length l
+middle-within w l n c low high sound s h = row-within w l n (middle low high) (sound-room w l n sound) (omega arith)
+
+-- what a test says of a cell that was read holds of the record's
+pub tested : (w : ℕ) (l : List ℕ) (i : ℕ) (test : Cell → Bool) {d : Cell} {r t : Bool} → d ≡ cellAt l (w * i) → r ≡ test d → r ≡ t → test (rowAt w l i .cell) ≡ t
+tested w l i test read is e = ap test (row-cell w l i ∙ sym read) ∙ sym is ∙ e
 
 module _ (w : ℕ) (l : List ℕ) (n : ℕ) (c : Cell) where
   pub all-left : Left w l n c 0 n

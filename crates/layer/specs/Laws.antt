@@ -1,9 +1,8 @@
 -- What follows of records that ascend, by their indices. Assumes nothing.
 use mathlib.Core.Path.{_≡_, refl, sym, ap, subst, _∙_}
-use mathlib.Core.Bool.{Bool, true, false, cond, _&&_}
-use mathlib.Core.List.{List, [], _∷_}
-use Prim.Native.Nat.{ℕ, zero, suc, _+_, _-_, _*_, _/_, _≤_, _<_, min}
-use native.Mathlib.Numerals.{add-one}
+use mathlib.Core.Bool.{Bool, true, false, _&&_}
+use mathlib.Core.List.{List}
+use Prim.Native.Nat.{ℕ, zero, suc, _+_, _-_, _*_, _/_, _≤_, _<_}
 use mathlib.Core.Logic.{⊎-elim}
 use native.Mathlib.Nat.{eq-or-lt-of-le, min-le-right, mul-div-le, mul-le-mul-left, mul-suc}
 use native.Mathlib.Omega.{arith}
@@ -106,20 +105,20 @@ module _ (w : ℕ) (l : List ℕ) (c : Cell) where
   first-held zero i k a b before e = absurd (omega arith)
   first-held (suc n) i k a b before e =
       ⊎-elim
-      (λ (q : i ≡ k). ap (λ (t : Bool). cond t (held (rowAt w l i .kept)) (heldOf c (rowsFrom w l (suc i) n))) (ap (λ (j : ℕ). sameCell (rowAt w l j .cell) c) q ∙ e) ∙ ap (λ (j : ℕ). held (rowAt w l j .kept)) q)
-      (λ (q : i < k). ap (λ (t : Bool). cond t (held (rowAt w l i .kept)) (heldOf c (rowsFrom w l (suc i) n))) (before i q) ∙ first-held n (suc i) k (omega arith) (omega arith) before e)
+      (λ (q : i ≡ k). rw (ap (λ (j : ℕ). sameCell (rowAt w l j .cell) c) q ∙ e) (ap (λ (j : ℕ). held (rowAt w l j .kept)) q))
+      (λ (q : i < k). rw (before i q) (first-held n (suc i) k (omega arith) (omega arith) before e))
       (eq-or-lt-of-le a)
 
   -- none of the n records from i on is the cell's
   none-held : (n i : ℕ) → ((k : ℕ) → k < i + n → sameCell (rowAt w l k .cell) c ≡ false) → heldOf c (rowsFrom w l i n) ≡ nothing
   unfolding rowsFrom heldOf
   none-held zero i h = refl
-  none-held (suc n) i h = ap (λ (t : Bool). cond t (held (rowAt w l i .kept)) (heldOf c (rowsFrom w l (suc i) n))) (h i (omega arith)) ∙ none-held n (suc i) (λ k b. h k (omega arith))
+  none-held (suc n) i h = rw (h i (omega arith)) (none-held n (suc i) (λ k b. h k (omega arith)))
 
   -- where the search finds a cell, what is kept there is what the layer holds of it
   pub find-is-held : (n i : ℕ) → isSound w l n ≡ true → Stands w l n c (At i) → heldOf c (rowsOf w l n) ≡ held (rowAt w l i .kept)
   unfolding rowsOf Stands
-  find-is-held n i sound s = first-held n 0 i (omega arith) (omega (arith, s .within)) (λ j h. differs j h) (s .same)
+  find-is-held n i sound s = first-held n 0 i (omega arith) (omega (arith, s .within)) differs (s .same)
     where
       differs : (j : ℕ) → j < i → sameCell (rowAt w l j .cell) c ≡ false
       differs j h =

@@ -1,6 +1,6 @@
 -- Where a cell stands among the records of a layer: "strictly ascending by id", in records of 20 or 24 bytes. Definitions only. Assumes nothing.
 use mathlib.Core.Path.{_≡_}
-use mathlib.Core.Bool.{Bool, true}
+use mathlib.Core.Bool.{true}
 use mathlib.Core.List.{List}
 use Prim.Native.Nat.{ℕ, _%_, _≤_, _<_}
 use Rattle.refusal.specs.declared.Cell.{Cell}

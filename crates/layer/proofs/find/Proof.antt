@@ -1,16 +1,11 @@
 -- What is left of the records becomes less by the half that cannot hold the cell.
-use mathlib.Core.Path.{_≡_, sym, ap, _∙_}
-use mathlib.Core.Bool.{Bool}
-use mathlib.Core.List.{List}
-use Prim.Native.Nat.{ℕ, _+_, _-_, _/_}
+use Prim.Native.Nat.{_-_}
 use borrow.Author.Needs.{needs}
 use native.Mathlib.Omega.{arith}
 use Rattle.refusal.specs.declared.Cell.{Cell}
 use Rattle.cell.specs.Cell.{sameCell, lessCell}
-use Rattle.layer.specs.Layer.{rowAt}
 use Rattle.layer.specs.Places.{Stands}
-use Rattle.layer.specs.Laws.{row-cell, row-within, sound-room}
-use Rattle.layer.proofs.Halves.{Left, all-left, none-left, upper-left, lower-left}
+use Rattle.layer.proofs.Halves.{Left, middle, middle-within, tested, all-left, none-left, upper-left, lower-left}
 use Rattle.layer.proofs.find.Statement.{statement}
 use Rattle.layer.proofs.find.Tie as tie
 
@@ -19,9 +14,6 @@ Inv-loop table width count c low₀ high₀ low high = Left width table count c 
 
 abbrev μ-loop : tie.MeasureT-loop
 μ-loop table width count c low₀ high₀ low high = high - low
-
-abbrev middle : ℕ → ℕ → ℕ
-middle low high = low + (high - low) / 2
 
 loop-holds : tie.Need-loop-holds Inv-loop μ-loop
 loop-holds c = let args = c .before .args in all-left (args .width) (args .table .now) (args .count) (args .c)
@@ -36,15 +28,13 @@ mul-read-at : tie.Need-mul-read-at Inv-loop μ-loop
 mul-read-at c =
     let start = c .before .before .before in
     let here = c .before .loop in
-    let room = sound-room (start .args .width) (start .args .table .now) (start .args .count) (start .pre .1) in
-    omega (arith, row-within (start .args .width) (start .args .table .now) (start .args .count) (middle (here .low) (here .high)) room (omega arith))
+    omega (arith, middle-within (start .args .width) (start .args .table .now) (start .args .count) (start .args .c) (here .low) (here .high) (start .pre .1) (here .inv) (c .loop-test .taken))
 
 read-at-requires : tie.Need-read-at-requires Inv-loop μ-loop
 read-at-requires c κs =
     let start = c .before .before .before in
     let here = c .before .loop in
-    let room = sound-room (start .args .width) (start .args .table .now) (start .args .count) (start .pre .1) in
-    omega (arith, row-within (start .args .width) (start .args .table .now) (start .args .count) (middle (here .low) (here .high)) room (omega arith))
+    omega (arith, middle-within (start .args .width) (start .args .table .now) (start .args .count) (start .args .c) (here .low) (here .high) (start .pre .1) (here .inv) (c .loop-test .taken))
 
 same-requires : tie.Need-same-requires Inv-loop μ-loop
 same-requires c κs = search needs
@@ -54,10 +44,9 @@ unfolding Stands
 returns c =
     let args = c .before .before .before .before .before .before .args in
     let here = c .before .before .before .before .loop in
-    let read = c .before .before .read-at .ensures ∙ sym (row-cell (args .width) (args .table .now) (middle (here .low) (here .high))) in
     record {
       within = omega arith;
-      same = ap (λ (d : Cell). sameCell d (args .c)) (sym read) ∙ sym (c .before .same .ensures) ∙ c .if1 .taken;
+      same = tested (args .width) (args .table .now) (middle (here .low) (here .high)) (λ (d : Cell). sameCell d (args .c)) (c .before .before .read-at .ensures) (c .before .same .ensures) (c .if1 .taken);
     }
 
 less-requires : tie.Need-less-requires Inv-loop μ-loop
@@ -74,9 +63,10 @@ loop-again c =
     let start = c .before .before .before .before .before .before .before .before in
     let args = start .args in
     let here = c .before .before .before .before .before .before .loop in
-    let read = c .before .before .before .before .read-at .ensures ∙ sym (row-cell (args .width) (args .table .now) (middle (here .low) (here .high))) in
-    upper-left (args .width) (args .table .now) (args .count) (args .c) (start .pre .1) (here .low) (here .high) (middle (here .low) (here .high)) (here .inv) (omega arith) (omega arith)
-    (ap (λ (d : Cell). lessCell d (args .c)) (sym read) ∙ sym (c .before .less .ensures) ∙ c .if2 .taken)
+    let at = middle (here .low) (here .high) in
+    let read = c .before .before .before .before .read-at .ensures in
+    upper-left (args .width) (args .table .now) (args .count) (args .c) (start .pre .1) (here .low) (here .high) at (here .inv) (omega arith) (omega arith)
+    (tested (args .width) (args .table .now) at (λ (d : Cell). lessCell d (args .c)) read (c .before .less .ensures) (c .if2 .taken))
 
 loop-less-2 : tie.Need-loop-less-2 Inv-loop μ-loop
 loop-less-2 c = omega arith
@@ -86,10 +76,11 @@ loop-again-2 c =
     let start = c .before .before .before .before .before .before .before .before in
     let args = start .args in
     let here = c .before .before .before .before .before .before .loop in
-    let read = c .before .before .before .before .read-at .ensures ∙ sym (row-cell (args .width) (args .table .now) (middle (here .low) (here .high))) in
-    lower-left (args .width) (args .table .now) (args .count) (args .c) (start .pre .1) (here .low) (here .high) (middle (here .low) (here .high)) (here .inv) (omega arith) (omega arith)
-    (ap (λ (d : Cell). sameCell d (args .c)) (sym read) ∙ sym (c .before .before .before .same .ensures) ∙ c .before .before .if1 .left)
-    (ap (λ (d : Cell). lessCell d (args .c)) (sym read) ∙ sym (c .before .less .ensures) ∙ c .if2 .left)
+    let at = middle (here .low) (here .high) in
+    let read = c .before .before .before .before .read-at .ensures in
+    lower-left (args .width) (args .table .now) (args .count) (args .c) (start .pre .1) (here .low) (here .high) at (here .inv) (omega arith) (omega arith)
+    (tested (args .width) (args .table .now) at (λ (d : Cell). sameCell d (args .c)) read (c .before .before .before .same .ensures) (c .before .before .if1 .left))
+    (tested (args .width) (args .table .now) at (λ (d : Cell). lessCell d (args .c)) read (c .before .less .ensures) (c .if2 .left))
 
 returns-2 : tie.Need-returns-2 Inv-loop μ-loop
 unfolding Stands

@@ -1,8 +1,8 @@
 -- `last` is the cell of record i, and each record before it is below the next one.
-use mathlib.Core.Path.{_≡_, refl, sym, ap, _∙_}
+use mathlib.Core.Path.{_≡_, sym, ap, _∙_}
 use mathlib.Core.Bool.{Bool}
 use mathlib.Core.List.{List}
-use Prim.Native.Nat.{ℕ, suc, _-_, _+_, _*_, _<_}
+use Prim.Native.Nat.{ℕ, suc, _+_, _-_, _<_}
 use borrow.Author.Count.{below-more}
 use borrow.Author.Needs.{needs}
 use native.Mathlib.Nat.{mul-zero}
