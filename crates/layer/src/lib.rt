@@ -1,0 +1,94 @@
+// Layers: a lent table of records, each a cell's 16 bytes and what is kept of it, strictly ascending by cell, and a count of those in use.
+// A flag record has 20 bytes, a value record 24; what follows is said once, over the width.
+ghost use mathlib.Core.Bool.{true};
+ghost use mathlib.Core.Path.{_≡_};
+ghost use Prim.Native.Nat.{_+_, _*_, _≤_};
+ghost use lib.ListN.{length};
+ghost use Rattle.layer.specs.Layer.{roomFor, rowAt, rowsOf, ascending, isSound};
+ghost use Rattle.layer.specs.Places.{Wide, Stands};
+use refusal::Cell;
+
+// Where a cell stands among the records, or where it would go.
+pub enum Place {
+    At(usize),
+    Before(usize),
+}
+
+// How many records a table has room for.
+pub fn room_for(table: &[u8], width: usize) -> usize
+    requires { ⌜ Wide width ⌝ }
+    ensures { λ r. ⌜ r ≡ roomFor width (now (table .entry)) ⌝ }
+{
+    let n = table.len() / width;
+    if n < 1024 { n } else { 1024 }
+}
+
+// Whether each record's cell is below the next one's; each cell is read once.
+fn is_ascending(table: &[u8], width: usize, count: usize) -> bool
+    requires { ⌜ Wide width ⌝ }
+    requires { ⌜ count ≤ roomFor width (now table) ⌝ }
+    ensures { λ r. ⌜ r ≡ ascending (rowsOf width (now (table .entry)) count) ⌝ }
+{
+    if count == 0 {
+        return true;
+    }
+    let mut last = cell::read_at(table, 0);
+    let mut i = 0;
+    while i + 1 < count {
+        let next = cell::read_at(table, width * (i + 1));
+        if cell::less(last, next) {
+            last = next;
+            i += 1;
+        } else {
+            return false;
+        }
+    }
+    true
+}
+
+// Whether the count and the order are those of a layer.
+pub fn is_sound(table: &[u8], width: usize, count: usize) -> bool
+    requires { ⌜ Wide width ⌝ }
+    ensures { λ r. ⌜ r ≡ isSound width (now (table .entry)) count ⌝ }
+{
+    if count > room_for(table, width) {
+        return false;
+    }
+    is_ascending(table, width, count)
+}
+
+// A cell's place among the records of a sound layer, by halves.
+pub fn find(table: &[u8], width: usize, count: usize, c: Cell) -> Place
+    requires { ⌜ Wide width ⌝ }
+    requires { ⌜ isSound width (now table) count ≡ true ⌝ }
+    ensures { λ r. ⌜ Stands width (now (table .entry)) count c r ⌝ }
+{
+    let mut low = 0;
+    let mut high = count;
+    while low < high {
+        let middle = low + (high - low) / 2;
+        let here = cell::read_at(table, width * middle);
+        if cell::same(here, c) {
+            return Place::At(middle);
+        }
+        if cell::less(here, c) {
+            low = middle + 1;
+        } else {
+            high = middle;
+        }
+    }
+    Place::Before(low)
+}
+
+// What is kept in a record: 32 bits where it has 20 bytes, 64 where it has 24.
+pub fn kept_at(table: &[u8], width: usize, i: usize) -> u64
+    requires { ⌜ Wide width ⌝ }
+    requires { ⌜ width * (i + 1) ≤ length (now table) ⌝ }
+    ensures { λ r. ⌜ r ≡ rowAt width (now (table .entry)) i .kept ⌝ }
+{
+    let at = width * i + 16;
+    if width == 20 {
+        return words::read32_big(table, at) as u64;
+    }
+    words::read64_big(table, at)
+}
