@@ -44,3 +44,69 @@ pub held-with-other : (c : Cell) (s : Row) (rs : List Row) → sameCell (s .cell
 unfolding heldOf withRow
 held-with-other c s [] e = rw e
 held-with-other c s (r ∷ rs) e = set-other c s r rs (lessCell (s .cell) (r .cell)) (sameCell (r .cell) (s .cell)) refl e (held-with-other c s rs e)
+
+-- ---- ascending rows
+
+-- a cell is below the first of these rows, if there is one
+unfoldable isBelow : Cell → List Row → Bool
+isBelow a [] = true
+isBelow a (r ∷ rs) = lessCell a (r .cell)
+
+both : (s t : Bool) → (s && t) ≡ true → (s ≡ true) × (t ≡ true)
+both true t e = (refl, e)
+both false t e = absurd (let z : _≡_ {A = ℕ} 0 1 = ap (λ (b : Bool). cond b 1 0) e in omega arith)
+
+first-below : (r : Row) (rs : List Row) → ascending (r ∷ rs) ≡ true → isBelow (r .cell) rs ≡ true
+unfolding ascending isBelow
+first-below r [] e = refl
+first-below r (s ∷ rs) e = both (lessCell (r .cell) (s .cell)) (ascending (s ∷ rs)) e .0
+
+rest-ascending : (r : Row) (rs : List Row) → ascending (r ∷ rs) ≡ true → ascending rs ≡ true
+unfolding ascending
+rest-ascending r [] e = refl
+rest-ascending r (s ∷ rs) e = both (lessCell (r .cell) (s .cell)) (ascending (s ∷ rs)) e .1
+
+put-first : (r : Row) (rs : List Row) → isBelow (r .cell) rs ≡ true → ascending rs ≡ true → ascending (r ∷ rs) ≡ true
+unfolding ascending isBelow
+put-first r [] b e = refl
+put-first r (s ∷ rs) b e = rw b e
+
+-- a cell that is not above a cell that is below the rows is below them too
+lower-below : (a b : Cell) (rs : List Row) → rawOf a ≤ rawOf b → isBelow b rs ≡ true → isBelow a rs ≡ true
+unfolding isBelow
+lower-below a b [] h e = refl
+lower-below a b (r ∷ rs) h e = lt-ltb (rawOf a) (rawOf (r .cell)) (omega (arith, h, ltb-true (rawOf b) (rawOf (r .cell)) e))
+
+-- what is below the first of ascending rows is not among them
+below-not-held : (c : Cell) (rs : List Row) → ascending rs ≡ true → isBelow c rs ≡ true → heldOf c rs ≡ nothing
+unfolding heldOf isBelow
+below-not-held c [] e b = refl
+below-not-held c (r ∷ rs) e b =
+    let lt = ltb-true (rawOf c) (rawOf (r .cell)) b in
+    rw (ne-eqb (rawOf (r .cell)) (rawOf c) (λ h. omega (arith, h, lt)))
+    (below-not-held c rs (rest-ascending r rs e) (lower-below c (r .cell) rs (omega (arith, lt)) (first-below r rs e)))
+
+-- ---- get after remove
+
+remove-same : (c d : Cell) (r : Row) (rs : List Row) (same : Bool) → sameCell (r .cell) c ≡ same → sameCell c d ≡ true → ascending (r ∷ rs) ≡ true → heldOf d (withoutCell c rs) ≡ nothing → heldOf d (cond same rs (r ∷ withoutCell c rs)) ≡ nothing
+unfolding heldOf
+remove-same c d r rs true f e up rest =
+    below-not-held d rs (rest-ascending r rs up) (lower-below d (r .cell) rs (omega (arith, eqb-true (rawOf (r .cell)) (rawOf c) f, eqb-true (rawOf c) (rawOf d) e)) (first-below r rs up))
+remove-same c d r rs false f e up rest = rw (other-left (r .cell) c d f e) rest
+
+-- of a cell that was removed nothing is held
+pub held-without-same : (c d : Cell) (rs : List Row) → ascending rs ≡ true → sameCell c d ≡ true → heldOf d (withoutCell c rs) ≡ nothing
+unfolding heldOf withoutCell
+held-without-same c d [] up e = refl
+held-without-same c d (r ∷ rs) up e = remove-same c d r rs (sameCell (r .cell) c) refl e up (held-without-same c d rs (rest-ascending r rs up) e)
+
+remove-other : (c d : Cell) (r : Row) (rs : List Row) (same : Bool) → sameCell (r .cell) c ≡ same → sameCell c d ≡ false → heldOf d (withoutCell c rs) ≡ heldOf d rs → heldOf d (cond same rs (r ∷ withoutCell c rs)) ≡ heldOf d (r ∷ rs)
+unfolding heldOf
+remove-other c d r rs true f e rest = rw (other-right (r .cell) c d f e)
+remove-other c d r rs false f e rest = ap (cond (sameCell (r .cell) d) (held (r .kept))) rest
+
+-- and what is held of every other cell stays
+pub held-without-other : (c d : Cell) (rs : List Row) → sameCell c d ≡ false → heldOf d (withoutCell c rs) ≡ heldOf d rs
+unfolding heldOf withoutCell
+held-without-other c d [] e = refl
+held-without-other c d (r ∷ rs) e = remove-other c d r rs (sameCell (r .cell) c) refl e (held-without-other c d rs e)
