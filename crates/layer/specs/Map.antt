@@ -3,7 +3,7 @@
 use mathlib.Core.Path.{_≡_, refl, sym, ap, _∙_}
 use mathlib.Core.Bool.{Bool, true, false, cond, _&&_}
 use mathlib.Core.List.{List, [], _∷_}
-use Prim.Native.Nat.{ℕ, suc, _≤_}
+use Prim.Native.Nat.{ℕ, suc, _≤_, _<_}
 use native.Mathlib.Omega.{arith}
 use lib.ListN.{length}
 use borrow.Author.Tests.{eqb-true, eqb-false, ne-eqb, ltb-true, ltb-false, lt-ltb, le-ltb, eq-eqb}
@@ -110,3 +110,108 @@ pub held-without-other : (c d : Cell) (rs : List Row) → sameCell c d ≡ false
 unfolding heldOf withoutCell
 held-without-other c d [] e = refl
 held-without-other c d (r ∷ rs) e = remove-other c d r rs (sameCell (r .cell) c) refl e (held-without-other c d rs e)
+
+-- ---- set and remove keep the order
+
+below-set : (a : Cell) (s r : Row) (rs : List Row) (below same : Bool) → lessCell a (s .cell) ≡ true → lessCell a (r .cell) ≡ true → isBelow a (cond below (s ∷ (r ∷ rs)) (cond same (s ∷ rs) (r ∷ withRow s rs))) ≡ true
+unfolding isBelow
+below-set a s r rs true same e f = e
+below-set a s r rs false true e f = e
+below-set a s r rs false false e f = f
+
+below-with : (a : Cell) (s : Row) (rs : List Row) → lessCell a (s .cell) ≡ true → isBelow a rs ≡ true → isBelow a (withRow s rs) ≡ true
+unfolding isBelow withRow
+below-with a s [] e b = e
+below-with a s (r ∷ rs) e b = below-set a s r rs (lessCell (s .cell) (r .cell)) (sameCell (r .cell) (s .cell)) e b
+
+set-ascending : (s r : Row) (rs : List Row) (below same : Bool) → lessCell (s .cell) (r .cell) ≡ below → sameCell (r .cell) (s .cell) ≡ same → ascending (r ∷ rs) ≡ true → ascending (withRow s rs) ≡ true → ascending (cond below (s ∷ (r ∷ rs)) (cond same (s ∷ rs) (r ∷ withRow s rs))) ≡ true
+unfolding isBelow
+set-ascending s r rs true same l f up rest = put-first s (r ∷ rs) l up
+set-ascending s r rs false true l f up rest =
+    put-first s rs (lower-below (s .cell) (r .cell) rs (omega (arith, eqb-true (rawOf (r .cell)) (rawOf (s .cell)) f)) (first-below r rs up)) (rest-ascending r rs up)
+set-ascending s r rs false false l f up rest =
+    let above = lt-ltb (rawOf (r .cell)) (rawOf (s .cell)) (apart (rawOf (r .cell)) (rawOf (s .cell)) (ltb-false (rawOf (s .cell)) (rawOf (r .cell)) l) (eqb-false (rawOf (r .cell)) (rawOf (s .cell)) f)) in
+    put-first r (withRow s rs) (below-with (r .cell) s rs above (first-below r rs up)) rest
+  where
+    apart : (m n : ℕ) → m ≤ n → (m ≡ n → ⊥) → m < n
+    apart m n h g = omega (arith, h, g)
+
+-- ascending rows ascend after a set
+pub with-ascending : (s : Row) (rs : List Row) → ascending rs ≡ true → ascending (withRow s rs) ≡ true
+unfolding ascending withRow
+with-ascending s [] up = refl
+with-ascending s (r ∷ rs) up = set-ascending s r rs (lessCell (s .cell) (r .cell)) (sameCell (r .cell) (s .cell)) refl refl up (with-ascending s rs (rest-ascending r rs up))
+
+below-remove : (a c : Cell) (r : Row) (rs : List Row) (same : Bool) → ascending (r ∷ rs) ≡ true → lessCell a (r .cell) ≡ true → isBelow a (cond same rs (r ∷ withoutCell c rs)) ≡ true
+unfolding isBelow
+below-remove a c r rs true up e = lower-below a (r .cell) rs (omega (arith, ltb-true (rawOf a) (rawOf (r .cell)) e)) (first-below r rs up)
+below-remove a c r rs false up e = e
+
+below-without : (a c : Cell) (rs : List Row) → ascending rs ≡ true → isBelow a rs ≡ true → isBelow a (withoutCell c rs) ≡ true
+unfolding isBelow withoutCell
+below-without a c [] up b = refl
+below-without a c (r ∷ rs) up b = below-remove a c r rs (sameCell (r .cell) c) up b
+
+remove-ascending : (c : Cell) (r : Row) (rs : List Row) (same : Bool) → ascending (r ∷ rs) ≡ true → ascending (withoutCell c rs) ≡ true → ascending (cond same rs (r ∷ withoutCell c rs)) ≡ true
+remove-ascending c r rs true up rest = rest-ascending r rs up
+remove-ascending c r rs false up rest = put-first r (withoutCell c rs) (below-without (r .cell) c rs (rest-ascending r rs up) (first-below r rs up)) rest
+
+-- and after a remove
+pub without-ascending : (c : Cell) (rs : List Row) → ascending rs ≡ true → ascending (withoutCell c rs) ≡ true
+unfolding ascending withoutCell
+without-ascending c [] up = refl
+without-ascending c (r ∷ rs) up = remove-ascending c r rs (sameCell (r .cell) c) up (without-ascending c rs (rest-ascending r rs up))
+
+-- ---- any sequence of calls
+
+pub data Call : Type 0 where
+  set : Row → Call
+  remove : Cell → Call
+
+-- the rows after these calls, the newest of which stands first
+unfoldable pub afterFrom : List Row → List Call → List Row
+unfolding withRow withoutCell
+afterFrom rs [] = rs
+afterFrom rs (set r ∷ earlier) = withRow r (afterFrom rs earlier)
+afterFrom rs (remove c ∷ earlier) = withoutCell c (afterFrom rs earlier)
+
+-- what the last set of a cell kept, if it was not removed since; where no call was about the cell, what was held before
+unfoldable pub lastSetFrom : Held → Cell → List Call → Held
+lastSetFrom h c [] = h
+lastSetFrom h c (set r ∷ earlier) = cond (sameCell (r .cell) c) (held (r .kept)) (lastSetFrom h c earlier)
+lastSetFrom h c (remove d ∷ earlier) = cond (sameCell d c) nothing (lastSetFrom h c earlier)
+
+-- the same, from the empty layer
+abbrev pub after : List Call → List Row
+after calls = afterFrom [] calls
+
+abbrev pub lastSet : Cell → List Call → Held
+lastSet c calls = lastSetFrom nothing c calls
+
+pub after-ascending : (rs : List Row) (calls : List Call) → ascending rs ≡ true → ascending (afterFrom rs calls) ≡ true
+unfolding afterFrom
+after-ascending rs [] up = up
+after-ascending rs (set r ∷ earlier) up = with-ascending r (afterFrom rs earlier) (after-ascending rs earlier up)
+after-ascending rs (remove c ∷ earlier) up = without-ascending c (afterFrom rs earlier) (after-ascending rs earlier up)
+
+after-set : (c : Cell) (r : Row) (rs : List Row) (h : Held) (same : Bool) → sameCell (r .cell) c ≡ same → heldOf c rs ≡ h → heldOf c (withRow r rs) ≡ cond same (held (r .kept)) h
+after-set c r rs h true f e = held-with-same c r rs f
+after-set c r rs h false f e = held-with-other c r rs f ∙ e
+
+after-remove : (c d : Cell) (rs : List Row) (h : Held) (same : Bool) → ascending rs ≡ true → sameCell d c ≡ same → heldOf c rs ≡ h → heldOf c (withoutCell d rs) ≡ cond same nothing h
+after-remove c d rs h true up f e = held-without-same d c rs up f
+after-remove c d rs h false up f e = held-without-other d c rs f ∙ e
+
+-- after any sequence of calls on a sound layer, get answers the last set not removed, or what was held before
+pub get-is-last-set-from : (c : Cell) (rs : List Row) (calls : List Call) → ascending rs ≡ true → heldOf c (afterFrom rs calls) ≡ lastSetFrom (heldOf c rs) c calls
+unfolding afterFrom lastSetFrom
+get-is-last-set-from c rs [] up = refl
+get-is-last-set-from c rs (set r ∷ earlier) up =
+    after-set c r (afterFrom rs earlier) (lastSetFrom (heldOf c rs) c earlier) (sameCell (r .cell) c) refl (get-is-last-set-from c rs earlier up)
+get-is-last-set-from c rs (remove d ∷ earlier) up =
+    after-remove c d (afterFrom rs earlier) (lastSetFrom (heldOf c rs) c earlier) (sameCell d c) (after-ascending rs earlier up) refl (get-is-last-set-from c rs earlier up)
+
+-- after any sequence of calls, get answers the last set not removed
+pub get-is-last-set : (c : Cell) (calls : List Call) → heldOf c (after calls) ≡ lastSet c calls
+unfolding heldOf ascending
+get-is-last-set c calls = get-is-last-set-from c [] calls refl
