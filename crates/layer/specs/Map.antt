@@ -162,6 +162,62 @@ unfolding ascending withoutCell
 without-ascending c [] up = refl
 without-ascending c (r ∷ rs) up = remove-ascending c r rs (sameCell (r .cell) c) up (without-ascending c rs (rest-ascending r rs up))
 
+-- ---- how many cells are held
+
+-- a cell of which something is held is one that is held
+nothing-held : (v : ℕ) → nothing ≡ held v → ⊥
+nothing-held v e = let z : _≡_ {A = ℕ} 0 1 = ap (λ (h : Held). elim h [ nothing ↦ 0 | held k ↦ 1 ]) e in omega arith
+
+set-held : (s r : Row) (rs : List Row) (v : ℕ) (below same : Bool) → lessCell (s .cell) (r .cell) ≡ below → sameCell (r .cell) (s .cell) ≡ same → ascending (r ∷ rs) ≡ true → heldOf (s .cell) (r ∷ rs) ≡ held v → (heldOf (s .cell) rs ≡ held v → length (withRow s rs) ≡ length rs) → length (cond below (s ∷ (r ∷ rs)) (cond same (s ∷ rs) (r ∷ withRow s rs))) ≡ suc (length rs)
+unfolding heldOf isBelow
+set-held s r rs v true same l f up e rest = absurd (nothing-held v (sym (below-not-held (s .cell) (r ∷ rs) up l) ∙ e))
+set-held s r rs v false true l f up e rest = refl
+set-held s r rs v false false l f up e rest = ap suc (rest (sym (ap (λ (b : Bool). cond b (held (r .kept)) (heldOf (s .cell) rs)) f) ∙ e))
+
+-- a set of a cell that is held keeps the count
+pub length-with-held : (s : Row) (rs : List Row) (v : ℕ) → ascending rs ≡ true → heldOf (s .cell) rs ≡ held v → length (withRow s rs) ≡ length rs
+unfolding heldOf withRow
+length-with-held s [] v up e = absurd (nothing-held v e)
+length-with-held s (r ∷ rs) v up e =
+    set-held s r rs v (lessCell (s .cell) (r .cell)) (sameCell (r .cell) (s .cell)) refl refl up e (length-with-held s rs v (rest-ascending r rs up))
+
+set-new : (s r : Row) (rs : List Row) (below same : Bool) → sameCell (r .cell) (s .cell) ≡ same → heldOf (s .cell) (r ∷ rs) ≡ nothing → (heldOf (s .cell) rs ≡ nothing → length (withRow s rs) ≡ suc (length rs)) → length (cond below (s ∷ (r ∷ rs)) (cond same (s ∷ rs) (r ∷ withRow s rs))) ≡ suc (suc (length rs))
+unfolding heldOf
+set-new s r rs true same f e rest = refl
+set-new s r rs false true f e rest = absurd (nothing-held (r .kept) (sym e ∙ ap (λ (b : Bool). cond b (held (r .kept)) (heldOf (s .cell) rs)) f))
+set-new s r rs false false f e rest = ap suc (rest (sym (ap (λ (b : Bool). cond b (held (r .kept)) (heldOf (s .cell) rs)) f) ∙ e))
+
+-- of one that is not, adds one
+pub length-with-new : (s : Row) (rs : List Row) → heldOf (s .cell) rs ≡ nothing → length (withRow s rs) ≡ suc (length rs)
+unfolding heldOf withRow
+length-with-new s [] e = refl
+length-with-new s (r ∷ rs) e = set-new s r rs (lessCell (s .cell) (r .cell)) (sameCell (r .cell) (s .cell)) refl e (length-with-new s rs)
+
+remove-held : (c : Cell) (r : Row) (rs : List Row) (v : ℕ) (same : Bool) → sameCell (r .cell) c ≡ same → heldOf c (r ∷ rs) ≡ held v → (heldOf c rs ≡ held v → suc (length (withoutCell c rs)) ≡ length rs) → suc (length (cond same rs (r ∷ withoutCell c rs))) ≡ suc (length rs)
+unfolding heldOf
+remove-held c r rs v true f e rest = refl
+remove-held c r rs v false f e rest = ap suc (rest (sym (ap (λ (b : Bool). cond b (held (r .kept)) (heldOf c rs)) f) ∙ e))
+
+-- a remove of a cell that is held takes one
+pub length-without-held : (c : Cell) (rs : List Row) (v : ℕ) → heldOf c rs ≡ held v → suc (length (withoutCell c rs)) ≡ length rs
+unfolding heldOf withoutCell
+length-without-held c [] v e = absurd (nothing-held v e)
+length-without-held c (r ∷ rs) v e = remove-held c r rs v (sameCell (r .cell) c) refl e (length-without-held c rs v)
+
+remove-none : (c : Cell) (r : Row) (rs : List Row) (same : Bool) → sameCell (r .cell) c ≡ same → heldOf c (r ∷ rs) ≡ nothing → (heldOf c rs ≡ nothing → withoutCell c rs ≡ rs) → cond same rs (r ∷ withoutCell c rs) ≡ r ∷ rs
+unfolding heldOf
+remove-none c r rs true f e rest = absurd (nothing-held (r .kept) (sym e ∙ ap (λ (b : Bool). cond b (held (r .kept)) (heldOf c rs)) f))
+remove-none c r rs false f e rest = ap (λ (l : List Row). r ∷ l) (rest (sym (ap (λ (b : Bool). cond b (held (r .kept)) (heldOf c rs)) f) ∙ e))
+
+-- of one that is not, changes nothing, so that the count stays too
+pub without-none : (c : Cell) (rs : List Row) → heldOf c rs ≡ nothing → withoutCell c rs ≡ rs
+unfolding heldOf withoutCell
+without-none c [] e = refl
+without-none c (r ∷ rs) e = remove-none c r rs (sameCell (r .cell) c) refl e (without-none c rs)
+
+pub length-without-none : (c : Cell) (rs : List Row) → heldOf c rs ≡ nothing → length (withoutCell c rs) ≡ length rs
+length-without-none c rs e = ap length (without-none c rs e)
+
 -- ---- any sequence of calls
 
 pub data Call : Type 0 where
