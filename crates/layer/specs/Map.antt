@@ -6,11 +6,21 @@ use mathlib.Core.List.{List, [], _∷_}
 use Prim.Native.Nat.{ℕ, suc, _≤_, _<_}
 use native.Mathlib.Omega.{arith}
 use lib.ListN.{length}
-use borrow.Author.Tests.{eqb-true, eqb-false, ne-eqb, ltb-true, ltb-false, lt-ltb, le-ltb, eq-eqb}
+use borrow.Author.Tests.{eqb-true, eqb-false, ne-eqb, ltb-true, ltb-false, lt-ltb}
 use Rattle.refusal.specs.declared.Cell.{Cell}
 use Rattle.refusal.specs.Table.{rawOf}
 use Rattle.cell.specs.Cell.{sameCell, lessCell}
 use Rattle.layer.specs.Layer.{Row, Held, nothing, held, heldOf, withRow, withoutCell, ascending}
+
+-- ---- the first row and the later ones
+
+held-first : (c : Cell) (r : Row) (rs : List Row) → sameCell (r .cell) c ≡ true → heldOf c (r ∷ rs) ≡ held (r .kept)
+unfolding heldOf
+held-first c r rs e = rw e
+
+held-later : (c : Cell) (r : Row) (rs : List Row) → sameCell (r .cell) c ≡ false → heldOf c (r ∷ rs) ≡ heldOf c rs
+unfolding heldOf
+held-later c r rs e = rw e
 
 -- ---- get after set
 
@@ -164,7 +174,6 @@ without-ascending c (r ∷ rs) up = remove-ascending c r rs (sameCell (r .cell) 
 
 -- ---- how many cells are held
 
--- a cell of which something is held is one that is held
 nothing-held : (v : ℕ) → nothing ≡ held v → ⊥
 nothing-held v e = let z : _≡_ {A = ℕ} 0 1 = ap (λ (h : Held). elim h [ nothing ↦ 0 | held k ↦ 1 ]) e in omega arith
 
@@ -172,7 +181,7 @@ set-held : (s r : Row) (rs : List Row) (v : ℕ) (below same : Bool) → lessCel
 unfolding heldOf isBelow
 set-held s r rs v true same l f up e rest = absurd (nothing-held v (sym (below-not-held (s .cell) (r ∷ rs) up l) ∙ e))
 set-held s r rs v false true l f up e rest = refl
-set-held s r rs v false false l f up e rest = ap suc (rest (sym (ap (λ (b : Bool). cond b (held (r .kept)) (heldOf (s .cell) rs)) f) ∙ e))
+set-held s r rs v false false l f up e rest = ap suc (rest (sym (held-later (s .cell) r rs f) ∙ e))
 
 -- a set of a cell that is held keeps the count
 pub length-with-held : (s : Row) (rs : List Row) (v : ℕ) → ascending rs ≡ true → heldOf (s .cell) rs ≡ held v → length (withRow s rs) ≡ length rs
@@ -184,8 +193,8 @@ length-with-held s (r ∷ rs) v up e =
 set-new : (s r : Row) (rs : List Row) (below same : Bool) → sameCell (r .cell) (s .cell) ≡ same → heldOf (s .cell) (r ∷ rs) ≡ nothing → (heldOf (s .cell) rs ≡ nothing → length (withRow s rs) ≡ suc (length rs)) → length (cond below (s ∷ (r ∷ rs)) (cond same (s ∷ rs) (r ∷ withRow s rs))) ≡ suc (suc (length rs))
 unfolding heldOf
 set-new s r rs true same f e rest = refl
-set-new s r rs false true f e rest = absurd (nothing-held (r .kept) (sym e ∙ ap (λ (b : Bool). cond b (held (r .kept)) (heldOf (s .cell) rs)) f))
-set-new s r rs false false f e rest = ap suc (rest (sym (ap (λ (b : Bool). cond b (held (r .kept)) (heldOf (s .cell) rs)) f) ∙ e))
+set-new s r rs false true f e rest = absurd (nothing-held (r .kept) (sym e ∙ held-first (s .cell) r rs f))
+set-new s r rs false false f e rest = ap suc (rest (sym (held-later (s .cell) r rs f) ∙ e))
 
 -- of one that is not, adds one
 pub length-with-new : (s : Row) (rs : List Row) → heldOf (s .cell) rs ≡ nothing → length (withRow s rs) ≡ suc (length rs)
@@ -196,7 +205,7 @@ length-with-new s (r ∷ rs) e = set-new s r rs (lessCell (s .cell) (r .cell)) (
 remove-held : (c : Cell) (r : Row) (rs : List Row) (v : ℕ) (same : Bool) → sameCell (r .cell) c ≡ same → heldOf c (r ∷ rs) ≡ held v → (heldOf c rs ≡ held v → suc (length (withoutCell c rs)) ≡ length rs) → suc (length (cond same rs (r ∷ withoutCell c rs))) ≡ suc (length rs)
 unfolding heldOf
 remove-held c r rs v true f e rest = refl
-remove-held c r rs v false f e rest = ap suc (rest (sym (ap (λ (b : Bool). cond b (held (r .kept)) (heldOf c rs)) f) ∙ e))
+remove-held c r rs v false f e rest = ap suc (rest (sym (held-later c r rs f) ∙ e))
 
 -- a remove of a cell that is held takes one
 pub length-without-held : (c : Cell) (rs : List Row) (v : ℕ) → heldOf c rs ≡ held v → suc (length (withoutCell c rs)) ≡ length rs
@@ -206,8 +215,8 @@ length-without-held c (r ∷ rs) v e = remove-held c r rs v (sameCell (r .cell) 
 
 remove-none : (c : Cell) (r : Row) (rs : List Row) (same : Bool) → sameCell (r .cell) c ≡ same → heldOf c (r ∷ rs) ≡ nothing → (heldOf c rs ≡ nothing → withoutCell c rs ≡ rs) → cond same rs (r ∷ withoutCell c rs) ≡ r ∷ rs
 unfolding heldOf
-remove-none c r rs true f e rest = absurd (nothing-held (r .kept) (sym e ∙ ap (λ (b : Bool). cond b (held (r .kept)) (heldOf c rs)) f))
-remove-none c r rs false f e rest = ap (λ (l : List Row). r ∷ l) (rest (sym (ap (λ (b : Bool). cond b (held (r .kept)) (heldOf c rs)) f) ∙ e))
+remove-none c r rs true f e rest = absurd (nothing-held (r .kept) (sym e ∙ held-first c r rs f))
+remove-none c r rs false f e rest = ap (λ (l : List Row). r ∷ l) (rest (sym (held-later c r rs f) ∙ e))
 
 -- of one that is not, changes nothing, so that the count stays too
 pub without-none : (c : Cell) (rs : List Row) → heldOf c rs ≡ nothing → withoutCell c rs ≡ rs
