@@ -1,7 +1,8 @@
 -- Rows and their bytes make each other again: rows that are laid into a table are read from it, and to lay what was read changes nothing. Over the width of a record,
 -- which is 16 bytes of cell at least. Assumes nothing.
-use mathlib.Core.Path.{_≡_, refl, sym, ap, ap₂, subst, _∙_}
-use mathlib.Core.List.{List, [], _∷_, _++_, flatMap, append-assoc, List·Memᴰ}
+use mathlib.Core.Path.{_≡_, refl, sym, ap, ap₂, _∙_}
+use mathlib.Core.Bool.{Bool, true, false, cond}
+use mathlib.Core.List.{List, [], _∷_, _++_, flatMap, append-assoc}
 use Prim.Native.Nat.{ℕ, zero, suc, _+_, _-_, _*_, _^_, _≤_, _<_}
 use native.Mathlib.Nat.{mul-suc, mul-zero}
 use native.Mathlib.Omega.{arith}
@@ -9,12 +10,13 @@ use lib.ListN.{length, take, drop, length-append, length-drop, take-append-drop}
 use lib.Seq.{drop-at, drop-drop, take-add}
 use Rattle.refusal.specs.declared.Cell.{Cell}
 use Rattle.words.specs.Word.{big, word, bytesOf, Bytes}
-use Rattle.words.specs.Laws.{length-bytesOf, word-bytesOf, word-append-left, word-append-right, word-drop, bytesOf-part, bytes-drop}
+use Rattle.words.specs.Laws.{length-bytesOf, word-bytesOf, word-append-left, word-append-right, word-drop, word-lt, bytesOf-part, bytes-drop}
+use Rattle.cell.specs.Cell.{sameCell, lessCell}
 use Rattle.cell.specs.Bytes.{cellAt, cellBytes}
 use Rattle.cell.specs.Stored.{length-cellBytes}
 use Rattle.cell.specs.BytesLaws.{cell-bytes-part}
 use Rattle.cell.specs.Laws.{Words}
-use Rattle.layer.specs.Layer.{Row, rowAt, rowsFrom, rowsOf, rowBytes, laid}
+use Rattle.layer.specs.Layer.{Row, rowAt, rowsFrom, rowsOf, rowBytes, laid, withRow, withoutCell}
 
 -- a row that a record of w bytes can hold
 pub record Storable (w : ℕ) (r : Row) : Type 0 where
@@ -137,3 +139,40 @@ laid-rows w l (suc n) h f b =
     (ap (λ (rs : List Row). laid w rs (drop w l)) (rows-next w l 0 n)
     ∙ laid-rows w (drop w l) n h (omega (arith, step, dropped, f)) (bytes-drop w l b))
     ∙ take-append-drop w l
+
+-- ---- rows that can be stored
+
+row-storable : (w : ℕ) (l : List ℕ) (i : ℕ) → Bytes l → Storable w (rowAt w l i)
+unfolding rowAt cellAt
+row-storable w l i b =
+    record {
+      words = record { high-word = word-lt big 8 l (w * i) b; low-word = word-lt big 8 l (w * i + 8) b };
+      small = word-lt big (w - 16) l (w * i + 16) b;
+    }
+
+-- those that were read from bytes can
+pub rows-storable : (w : ℕ) (l : List ℕ) (i n : ℕ) → Bytes l → AllStorable w (rowsFrom w l i n)
+unfolding rowsFrom
+rows-storable w l i zero b = none
+rows-storable w l i (suc n) b = more (row-storable w l i b) (rows-storable w l (suc i) n b)
+
+set-storable : (w : ℕ) (s r : Row) (rs : List Row) (below same : Bool) → Storable w s → Storable w r → AllStorable w rs → AllStorable w (withRow s rs) → AllStorable w (cond below (s ∷ (r ∷ rs)) (cond same (s ∷ rs) (r ∷ withRow s rs)))
+set-storable w s r rs true same h g a rest = more h (more g a)
+set-storable w s r rs false true h g a rest = more h a
+set-storable w s r rs false false h g a rest = more g rest
+
+-- with such a row set among them, they still can
+pub with-storable : (w : ℕ) (s : Row) (rs : List Row) → Storable w s → AllStorable w rs → AllStorable w (withRow s rs)
+unfolding withRow
+with-storable w s [] h none = more h none
+with-storable w s (r ∷ rs) h (more g a) = set-storable w s r rs (lessCell (s .cell) (r .cell)) (sameCell (r .cell) (s .cell)) h g a (with-storable w s rs h a)
+
+remove-storable : (w : ℕ) (c : Cell) (r : Row) (rs : List Row) (same : Bool) → Storable w r → AllStorable w rs → AllStorable w (withoutCell c rs) → AllStorable w (cond same rs (r ∷ withoutCell c rs))
+remove-storable w c r rs true g a rest = a
+remove-storable w c r rs false g a rest = more g rest
+
+-- and with a cell removed
+pub without-storable : (w : ℕ) (c : Cell) (rs : List Row) → AllStorable w rs → AllStorable w (withoutCell c rs)
+unfolding withoutCell
+without-storable w c [] none = none
+without-storable w c (r ∷ rs) (more g a) = remove-storable w c r rs (sameCell (r .cell) c) g a (without-storable w c rs a)

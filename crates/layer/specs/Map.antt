@@ -1,7 +1,7 @@
 -- A layer is a map: what `get`, `set` and `remove` do to one another, over lists of rows, and `get-is-last-set`, over any sequence of calls.
 -- Cells are compared by their 128 bits as a number. Assumes nothing.
 use mathlib.Core.Path.{_≡_, refl, sym, ap, _∙_}
-use mathlib.Core.Bool.{Bool, true, false, cond, _&&_}
+use mathlib.Core.Bool.{Bool, true, false, cond, and-eq-true-iff}
 use mathlib.Core.List.{List, [], _∷_}
 use Prim.Native.Nat.{ℕ, suc, _≤_, _<_}
 use native.Mathlib.Omega.{arith}
@@ -62,19 +62,15 @@ unfoldable isBelow : Cell → List Row → Bool
 isBelow a [] = true
 isBelow a (r ∷ rs) = lessCell a (r .cell)
 
-both : (s t : Bool) → (s && t) ≡ true → (s ≡ true) × (t ≡ true)
-both true t e = (refl, e)
-both false t e = absurd (let z : _≡_ {A = ℕ} 0 1 = ap (λ (b : Bool). cond b 1 0) e in omega arith)
-
 first-below : (r : Row) (rs : List Row) → ascending (r ∷ rs) ≡ true → isBelow (r .cell) rs ≡ true
 unfolding ascending isBelow
 first-below r [] e = refl
-first-below r (s ∷ rs) e = both (lessCell (r .cell) (s .cell)) (ascending (s ∷ rs)) e .0
+first-below r (s ∷ rs) e = and-eq-true-iff (lessCell (r .cell) (s .cell)) (ascending (s ∷ rs)) .0 e .0
 
 rest-ascending : (r : Row) (rs : List Row) → ascending (r ∷ rs) ≡ true → ascending rs ≡ true
 unfolding ascending
 rest-ascending r [] e = refl
-rest-ascending r (s ∷ rs) e = both (lessCell (r .cell) (s .cell)) (ascending (s ∷ rs)) e .1
+rest-ascending r (s ∷ rs) e = and-eq-true-iff (lessCell (r .cell) (s .cell)) (ascending (s ∷ rs)) .0 e .1
 
 put-first : (r : Row) (rs : List Row) → isBelow (r .cell) rs ≡ true → ascending rs ≡ true → ascending (r ∷ rs) ≡ true
 unfolding ascending isBelow
