@@ -225,6 +225,7 @@ length-without-none c rs e = ap length (without-none c rs e)
 
 -- ---- any sequence of calls
 
+-- a call that was answered: one that was refused, for want of room say, is no part of a sequence
 pub data Call : Type 0 where
   set : Row → Call
   remove : Cell → Call
@@ -249,6 +250,7 @@ after calls = afterFrom [] calls
 abbrev pub lastSet : Cell → List Call → Held
 lastSet c calls = lastSetFrom nothing c calls
 
+-- the rows ascend after any calls
 pub after-ascending : (rs : List Row) (calls : List Call) → ascending rs ≡ true → ascending (afterFrom rs calls) ≡ true
 unfolding afterFrom
 after-ascending rs [] up = up
@@ -263,7 +265,7 @@ after-remove : (c d : Cell) (rs : List Row) (h : Held) (same : Bool) → ascendi
 after-remove c d rs h true up f e = held-without-same d c rs up f
 after-remove c d rs h false up f e = held-without-other d c rs f ∙ e
 
--- after any sequence of calls on a sound layer, get answers the last set not removed, or what was held before
+-- after any sequence of calls on ascending rows, get answers the last set not removed, or what was held before
 pub get-is-last-set-from : (c : Cell) (rs : List Row) (calls : List Call) → ascending rs ≡ true → heldOf c (afterFrom rs calls) ≡ lastSetFrom (heldOf c rs) c calls
 unfolding afterFrom lastSetFrom
 get-is-last-set-from c rs [] up = refl
