@@ -25,8 +25,8 @@ pub record Storable (w : ℕ) (r : Row) : Type 0 where
 
 -- rows that all are
 pub data AllStorable (w : ℕ) : List Row → Type 0 where
-  none : AllStorable w []
-  more : {r : Row} {rs : List Row} → Storable w r → AllStorable w rs → AllStorable w (r ∷ rs)
+  no-rows : AllStorable w []
+  one-more : {r : Row} {rs : List Row} → Storable w r → AllStorable w rs → AllStorable w (r ∷ rs)
 
 -- ---- one row
 
@@ -118,8 +118,8 @@ length-rowsFrom w l i (suc n) = ap suc (length-rowsFrom w l (suc i) n)
 -- rows that are laid into a table are read from it
 pub rows-laid : (w : ℕ) (rs : List Row) (l : List ℕ) → 16 ≤ w → AllStorable w rs → rowsOf w (laid w rs l) (length rs) ≡ rs
 unfolding rowsOf rowsFrom
-rows-laid w [] l h none = refl
-rows-laid w (r ∷ rs) l h (more s a) =
+rows-laid w [] l h no-rows = refl
+rows-laid w (r ∷ rs) l h (one-more s a) =
     let rest = laid w rs (drop w l) in
     ap (λ (m : List ℕ). rowsFrom w m 0 (suc (length rs))) (laid-cons w r rs l)
     ∙ ap₂ _∷_ (row-back w r rest s)
@@ -153,26 +153,26 @@ row-storable w l i b =
 -- those that were read from bytes can
 pub rows-storable : (w : ℕ) (l : List ℕ) (i n : ℕ) → Bytes l → AllStorable w (rowsFrom w l i n)
 unfolding rowsFrom
-rows-storable w l i zero b = none
-rows-storable w l i (suc n) b = more (row-storable w l i b) (rows-storable w l (suc i) n b)
+rows-storable w l i zero b = no-rows
+rows-storable w l i (suc n) b = one-more (row-storable w l i b) (rows-storable w l (suc i) n b)
 
 set-storable : (w : ℕ) (s r : Row) (rs : List Row) (below same : Bool) → Storable w s → Storable w r → AllStorable w rs → AllStorable w (withRow s rs) → AllStorable w (cond below (s ∷ (r ∷ rs)) (cond same (s ∷ rs) (r ∷ withRow s rs)))
-set-storable w s r rs true same h g a rest = more h (more g a)
-set-storable w s r rs false true h g a rest = more h a
-set-storable w s r rs false false h g a rest = more g rest
+set-storable w s r rs true same h g a rest = one-more h (one-more g a)
+set-storable w s r rs false true h g a rest = one-more h a
+set-storable w s r rs false false h g a rest = one-more g rest
 
 -- with such a row set among them, they still can
 pub with-storable : (w : ℕ) (s : Row) (rs : List Row) → Storable w s → AllStorable w rs → AllStorable w (withRow s rs)
 unfolding withRow
-with-storable w s [] h none = more h none
-with-storable w s (r ∷ rs) h (more g a) = set-storable w s r rs (lessCell (s .cell) (r .cell)) (sameCell (r .cell) (s .cell)) h g a (with-storable w s rs h a)
+with-storable w s [] h no-rows = one-more h no-rows
+with-storable w s (r ∷ rs) h (one-more g a) = set-storable w s r rs (lessCell (s .cell) (r .cell)) (sameCell (r .cell) (s .cell)) h g a (with-storable w s rs h a)
 
 remove-storable : (w : ℕ) (c : Cell) (r : Row) (rs : List Row) (same : Bool) → Storable w r → AllStorable w rs → AllStorable w (withoutCell c rs) → AllStorable w (cond same rs (r ∷ withoutCell c rs))
 remove-storable w c r rs true g a rest = a
-remove-storable w c r rs false g a rest = more g rest
+remove-storable w c r rs false g a rest = one-more g rest
 
 -- and with a cell removed
 pub without-storable : (w : ℕ) (c : Cell) (rs : List Row) → AllStorable w rs → AllStorable w (withoutCell c rs)
 unfolding withoutCell
-without-storable w c [] none = none
-without-storable w c (r ∷ rs) (more g a) = remove-storable w c r rs (sameCell (r .cell) c) g a (without-storable w c rs a)
+without-storable w c [] no-rows = no-rows
+without-storable w c (r ∷ rs) (one-more g a) = remove-storable w c r rs (sameCell (r .cell) c) g a (without-storable w c rs a)

@@ -15,14 +15,10 @@ use Rattle.words.specs.Word.{big, word}
 use Rattle.cell.specs.Cell.{sameCell, lessCell}
 use Rattle.cell.specs.Bytes.{cellAt}
 use Rattle.cell.specs.Laws.{less-transitive}
+use Rattle.lattice.specs.Signs.{both}
 use Rattle.layer.specs.Layer.{mostCells, roomFor, rowAt, rowsFrom, rowsOf, ascending, isSound, held, nothing, heldOf}
 use Rattle.layer.specs.declared.Place.the-variants.{At, Before}
 use Rattle.layer.specs.Places.{Stands}
-
-both : (s t : Bool) → s && t ≡ true → (s ≡ true) × (t ≡ true)
-both true true e = (refl, refl)
-both true false e = let z : _≡_ {A = ℕ} 0 1 = cc in absurd (omega arith)
-both false t e = let z : _≡_ {A = ℕ} 0 1 = cc in absurd (omega arith)
 
 -- the first 16 bytes of a record are its cell's
 pub row-cell : (w : ℕ) (l : List ℕ) (i : ℕ) → rowAt w l i .cell ≡ cellAt l (w * i)

@@ -227,25 +227,25 @@ length-without-none c rs e = ap length (without-none c rs e)
 
 -- a call that was answered: one that was refused, for want of room say, is no part of a sequence
 pub data Call : Type 0 where
-  set : Row → Call
-  remove : Cell → Call
+  setRow : Row → Call
+  removeCell : Cell → Call
 
 -- the rows after these calls, the newest of which stands first
 unfoldable pub afterFrom : List Row → List Call → List Row
 unfolding withRow withoutCell
 afterFrom rs [] = rs
-afterFrom rs (set r ∷ earlier) = withRow r (afterFrom rs earlier)
-afterFrom rs (remove c ∷ earlier) = withoutCell c (afterFrom rs earlier)
+afterFrom rs (setRow r ∷ earlier) = withRow r (afterFrom rs earlier)
+afterFrom rs (removeCell c ∷ earlier) = withoutCell c (afterFrom rs earlier)
 
 -- what the last set of a cell kept, if it was not removed since; where no call was about the cell, what was held before
 unfoldable pub lastSetFrom : Held → Cell → List Call → Held
 lastSetFrom h c [] = h
-lastSetFrom h c (set r ∷ earlier) = cond (sameCell (r .cell) c) (held (r .kept)) (lastSetFrom h c earlier)
-lastSetFrom h c (remove d ∷ earlier) = cond (sameCell d c) nothing (lastSetFrom h c earlier)
+lastSetFrom h c (setRow r ∷ earlier) = cond (sameCell (r .cell) c) (held (r .kept)) (lastSetFrom h c earlier)
+lastSetFrom h c (removeCell d ∷ earlier) = cond (sameCell d c) nothing (lastSetFrom h c earlier)
 
 -- the same, from the empty layer
-abbrev pub after : List Call → List Row
-after calls = afterFrom [] calls
+abbrev pub afterCalls : List Call → List Row
+afterCalls calls = afterFrom [] calls
 
 abbrev pub lastSet : Cell → List Call → Held
 lastSet c calls = lastSetFrom nothing c calls
@@ -254,8 +254,8 @@ lastSet c calls = lastSetFrom nothing c calls
 pub after-ascending : (rs : List Row) (calls : List Call) → ascending rs ≡ true → ascending (afterFrom rs calls) ≡ true
 unfolding afterFrom
 after-ascending rs [] up = up
-after-ascending rs (set r ∷ earlier) up = with-ascending r (afterFrom rs earlier) (after-ascending rs earlier up)
-after-ascending rs (remove c ∷ earlier) up = without-ascending c (afterFrom rs earlier) (after-ascending rs earlier up)
+after-ascending rs (setRow r ∷ earlier) up = with-ascending r (afterFrom rs earlier) (after-ascending rs earlier up)
+after-ascending rs (removeCell c ∷ earlier) up = without-ascending c (afterFrom rs earlier) (after-ascending rs earlier up)
 
 after-set : (c : Cell) (r : Row) (rs : List Row) (h : Held) (same : Bool) → sameCell (r .cell) c ≡ same → heldOf c rs ≡ h → heldOf c (withRow r rs) ≡ cond same (held (r .kept)) h
 after-set c r rs h true f e = held-with-same c r rs f
@@ -269,12 +269,12 @@ after-remove c d rs h false up f e = held-without-other d c rs f ∙ e
 pub get-is-last-set-from : (c : Cell) (rs : List Row) (calls : List Call) → ascending rs ≡ true → heldOf c (afterFrom rs calls) ≡ lastSetFrom (heldOf c rs) c calls
 unfolding afterFrom lastSetFrom
 get-is-last-set-from c rs [] up = refl
-get-is-last-set-from c rs (set r ∷ earlier) up =
+get-is-last-set-from c rs (setRow r ∷ earlier) up =
     after-set c r (afterFrom rs earlier) (lastSetFrom (heldOf c rs) c earlier) (sameCell (r .cell) c) refl (get-is-last-set-from c rs earlier up)
-get-is-last-set-from c rs (remove d ∷ earlier) up =
+get-is-last-set-from c rs (removeCell d ∷ earlier) up =
     after-remove c d (afterFrom rs earlier) (lastSetFrom (heldOf c rs) c earlier) (sameCell d c) (after-ascending rs earlier up) refl (get-is-last-set-from c rs earlier up)
 
 -- after any sequence of calls, get answers the last set not removed
-pub get-is-last-set : (c : Cell) (calls : List Call) → heldOf c (after calls) ≡ lastSet c calls
+pub get-is-last-set : (c : Cell) (calls : List Call) → heldOf c (afterCalls calls) ≡ lastSet c calls
 unfolding heldOf ascending
 get-is-last-set c calls = get-is-last-set-from c [] calls refl

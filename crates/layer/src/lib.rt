@@ -14,13 +14,16 @@ pub enum Place {
     Before(usize),
 }
 
+// The most cells that a layer may have, whatever its table.
+const MOST_CELLS: usize = 1024;
+
 // How many records a table has room for.
 pub fn room_for(table: &[u8], width: usize) -> usize
     requires { ⌜ Wide width ⌝ }
     ensures { λ r. ⌜ r ≡ roomFor width (now (table .entry)) ⌝ }
 {
     let n = table.len() / width;
-    if n < 1024 { n } else { 1024 }
+    if n < MOST_CELLS { n } else { MOST_CELLS }
 }
 
 // Whether each record's cell is below the next one's; each cell is read once.
