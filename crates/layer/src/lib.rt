@@ -7,6 +7,7 @@ ghost use lib.ListN.{length};
 ghost use Rattle.layer.specs.Layer.{roomFor, rowAt, rowsOf, ascending, isSound};
 ghost use Rattle.layer.specs.Places.{Wide, Stands};
 use refusal::Cell;
+use refusal::Refusal;
 
 // Where a cell stands among the records, or where it would go.
 pub enum Place {
@@ -94,4 +95,38 @@ pub fn kept_at(table: &[u8], width: usize, i: usize) -> u64
         return words::read32_big(table, at) as u64;
     }
     words::read64_big(table, at)
+}
+
+// What is kept of a cell, if anything.
+pub enum HeldAnswer {
+    Kept(u64),
+    Nothing,
+    Refused(Refusal),
+}
+
+// The flags of a cell, if it has any.
+pub enum FlagsAnswer {
+    Flags(u32),
+    Nothing,
+    Refused(Refusal),
+}
+
+// The bits of a cell's value, if it has one.
+pub enum ValueAnswer {
+    Bits(u64),
+    Nothing,
+    Refused(Refusal),
+}
+
+// Whether anything is kept of a cell.
+pub enum ContainsAnswer {
+    Contained,
+    Missing,
+    Refused(Refusal),
+}
+
+// How many cells a layer has.
+pub enum CountAnswer {
+    Cells(usize),
+    Refused(Refusal),
 }
