@@ -6,6 +6,8 @@ ghost use Prim.Native.Nat.{_+_, _*_, _≤_};
 ghost use lib.ListN.{length};
 ghost use Rattle.layer.specs.Layer.{roomFor, rowAt, rowsOf, ascending, isSound};
 ghost use Rattle.layer.specs.Places.{Wide, Stands};
+ghost use Rattle.layer.specs.Calls.{heldIn, ofValue, ofContains, countIn};
+use cell::CellAnswer;
 use refusal::Cell;
 use refusal::Refusal;
 
@@ -129,4 +131,89 @@ pub enum ContainsAnswer {
 pub enum CountAnswer {
     Cells(usize),
     Refused(Refusal),
+}
+
+// What a sound layer keeps of a cell that is given by its 16 bytes.
+fn held(table: &[u8], width: usize, count: usize, cell: &[u8]) -> HeldAnswer
+    requires { ⌜ Wide width ⌝ }
+    ensures { λ r. ⌜ r ≡ heldIn width (now (table .entry)) count (now (cell .entry)) ⌝ }
+{
+    let given = cell::from_bytes(cell);
+    match given {
+        CellAnswer::Refused(why) => HeldAnswer::Refused(why),
+        CellAnswer::Is(c) => {
+            if is_sound(table, width, count) {
+                let place = find(table, width, count, c);
+                match place {
+                    Place::At(i) => HeldAnswer::Kept(kept_at(table, width, i)),
+                    Place::Before(_i) => HeldAnswer::Nothing,
+                }
+            } else {
+                HeldAnswer::Refused(Refusal::BadLayer)
+            }
+        }
+    }
+}
+
+// The bits of a cell's value in a value layer.
+pub fn get_value(table: &[u8], count: usize, cell: &[u8]) -> ValueAnswer
+    ensures { λ r. ⌜ r ≡ ofValue (heldIn 24 (now (table .entry)) count (now (cell .entry))) ⌝ }
+{
+    let kept = held(table, 24, count, cell);
+    match kept {
+        HeldAnswer::Kept(bits) => ValueAnswer::Bits(bits),
+        HeldAnswer::Nothing => ValueAnswer::Nothing,
+        HeldAnswer::Refused(why) => ValueAnswer::Refused(why),
+    }
+}
+
+// Whether something is kept, of whatever was asked for.
+fn contains(kept: HeldAnswer) -> ContainsAnswer
+    ensures { λ r. ⌜ r ≡ ofContains kept ⌝ }
+{
+    match kept {
+        HeldAnswer::Kept(_) => ContainsAnswer::Contained,
+        HeldAnswer::Nothing => ContainsAnswer::Missing,
+        HeldAnswer::Refused(why) => ContainsAnswer::Refused(why),
+    }
+}
+
+// Whether a flag layer has a cell.
+pub fn contains_flags(table: &[u8], count: usize, cell: &[u8]) -> ContainsAnswer
+    ensures { λ r. ⌜ r ≡ ofContains (heldIn 20 (now (table .entry)) count (now (cell .entry))) ⌝ }
+{
+    contains(held(table, 20, count, cell))
+}
+
+// Whether a value layer has a cell.
+pub fn contains_value(table: &[u8], count: usize, cell: &[u8]) -> ContainsAnswer
+    ensures { λ r. ⌜ r ≡ ofContains (heldIn 24 (now (table .entry)) count (now (cell .entry))) ⌝ }
+{
+    contains(held(table, 24, count, cell))
+}
+
+// How many cells a layer has, if its table is sound.
+fn cells(table: &[u8], width: usize, count: usize) -> CountAnswer
+    requires { ⌜ Wide width ⌝ }
+    ensures { λ r. ⌜ r ≡ countIn width (now (table .entry)) count ⌝ }
+{
+    if is_sound(table, width, count) {
+        CountAnswer::Cells(count)
+    } else {
+        CountAnswer::Refused(Refusal::BadLayer)
+    }
+}
+
+// How many cells a flag layer has.
+pub fn count_flags(table: &[u8], count: usize) -> CountAnswer
+    ensures { λ r. ⌜ r ≡ countIn 20 (now (table .entry)) count ⌝ }
+{
+    cells(table, 20, count)
+}
+
+// How many cells a value layer has.
+pub fn count_values(table: &[u8], count: usize) -> CountAnswer
+    ensures { λ r. ⌜ r ≡ countIn 24 (now (table .entry)) count ⌝ }
+{
+    cells(table, 24, count)
 }

@@ -1,0 +1,50 @@
+-- What a call on a layer answers, by what its cell's bytes, its table and the search turned out to be. Assumes nothing.
+use mathlib.Core.Path.{_≡_, refl, sym, ap, subst, _∙_}
+use mathlib.Core.Bool.{Bool, true, false, cond}
+use mathlib.Core.List.{List}
+use Prim.Native.Nat.{ℕ, suc, _+_, _*_, _≤_}
+use native.Mathlib.Nat.{mul-suc}
+use native.Mathlib.Numerals.{add-one}
+use native.Mathlib.Omega.{arith}
+use lib.ListN.{length}
+use Rattle.refusal.specs.declared.Cell.{Cell}
+use Rattle.refusal.specs.declared.Refusal.the-variants.{BadLayer}
+use Rattle.cell.specs.declared.CellAnswer.{CellAnswer}
+use Rattle.cell.specs.declared.CellAnswer.the-variants.{Is}
+use Rattle.cell.specs.Bytes.{fromBytesOf}
+use Rattle.layer.specs.Layer.{Held, rowAt, heldOf, rowsOf, isSound}
+use Rattle.layer.specs.Places.{Stands}
+use Rattle.layer.specs.Laws.{sound-room, row-within, find-is-held, find-is-nothing}
+use Rattle.layer.specs.declared.Place.{Place}
+use Rattle.layer.specs.declared.Place.the-variants.{At, Before}
+use Rattle.layer.specs.declared.HeldAnswer.{HeldAnswer}
+use Rattle.layer.specs.declared.HeldAnswer.the-variants.{Kept, Nothing, Refused}
+use Rattle.layer.specs.Calls.{ofHeld, heldBy, heldIn}
+
+module _ (w : ℕ) (l : List ℕ) (n : ℕ) where
+  -- the bytes of the cell were read
+  pub on-given : (m : List ℕ) {a b : CellAnswer} → a ≡ fromBytesOf m → a ≡ b → heldBy b w l n ≡ heldIn w l n m
+  unfolding heldIn
+  on-given m read known = ap (λ (x : CellAnswer). heldBy x w l n) (sym known ∙ read)
+
+  pub not-sound : (c : Cell) → isSound w l n ≡ false → Refused BadLayer ≡ heldBy (Is c) w l n
+  not-sound c e = sym (ap (λ (t : Bool). cond t (ofHeld (heldOf c (rowsOf w l n))) (Refused BadLayer)) e)
+
+  on-sound : (c : Cell) (h : Held) → isSound w l n ≡ true → heldOf c (rowsOf w l n) ≡ h → ofHeld h ≡ heldBy (Is c) w l n
+  on-sound c h e q = ap ofHeld (sym q) ∙ sym (ap (λ (t : Bool). cond t (ofHeld (heldOf c (rowsOf w l n))) (Refused BadLayer)) e)
+
+  pub found : (c : Cell) (i : ℕ) {k : ℕ} {p : Place} → isSound w l n ≡ true → Stands w l n c p → p ≡ At i → k ≡ rowAt w l i .kept → Kept k ≡ heldBy (Is c) w l n
+  found c i e s q r = ap Kept r ∙ on-sound c _ e (find-is-held w l c n i e (subst (Stands w l n c) q s))
+
+  pub not-found : (c : Cell) (i : ℕ) {p : Place} → isSound w l n ≡ true → Stands w l n c p → p ≡ Before i → Nothing ≡ heldBy (Is c) w l n
+  not-found c i e s q = on-sound c _ e (find-is-nothing w l c n i (subst (Stands w l n c) q s))
+
+  -- a record that was found lies within the table
+  at-within : (c : Cell) (i : ℕ) → isSound w l n ≡ true → Stands w l n c (At i) → w * (i + 1) ≤ length l
+  unfolding Stands
+  at-within c i e s =
+      let q : w * (i + 1) ≡ w * suc i = ap (λ (j : ℕ). w * j) (add-one i) in
+      omega (arith, q, mul-suc w i, row-within w l n i (sound-room w l n e) (s .within))
+
+  pub found-within : (c : Cell) (i : ℕ) {p : Place} → isSound w l n ≡ true → Stands w l n c p → p ≡ At i → w * (i + 1) ≤ length l
+  found-within c i e s q = at-within c i e (subst (Stands w l n c) q s)
