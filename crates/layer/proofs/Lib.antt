@@ -1,2 +1,3 @@
 mod Halves
 mod Answers
+pub mod OneAnswer

@@ -6,7 +6,7 @@ ghost use Prim.Native.Nat.{_+_, _*_, _≤_};
 ghost use lib.ListN.{length};
 ghost use Rattle.layer.specs.Layer.{roomFor, rowAt, rowsOf, ascending, isSound};
 ghost use Rattle.layer.specs.Places.{Wide, Stands};
-ghost use Rattle.layer.specs.Calls.{heldIn, ofValue, ofContains, countIn};
+ghost use Rattle.layer.specs.Calls.{heldIn, ofValue, ofContains, ofFlags, countIn};
 use cell::CellAnswer;
 use refusal::Cell;
 use refusal::Refusal;
@@ -152,6 +152,18 @@ fn held(table: &[u8], width: usize, count: usize, cell: &[u8]) -> HeldAnswer
                 HeldAnswer::Refused(Refusal::BadLayer)
             }
         }
+    }
+}
+
+// The flags of a cell in a flag layer.
+pub fn get_flags(table: &[u8], count: usize, cell: &[u8]) -> FlagsAnswer
+    ensures { λ r. ⌜ r ≡ ofFlags (heldIn 20 (now (table .entry)) count (now (cell .entry))) ⌝ }
+{
+    let kept = held(table, 20, count, cell);
+    match kept {
+        HeldAnswer::Kept(flags) => FlagsAnswer::Flags(flags as u32),
+        HeldAnswer::Nothing => FlagsAnswer::Nothing,
+        HeldAnswer::Refused(why) => FlagsAnswer::Refused(why),
     }
 }
 
