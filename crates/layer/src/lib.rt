@@ -7,6 +7,7 @@ ghost use lib.ListN.{length};
 ghost use Rattle.layer.specs.Layer.{roomFor, rowAt, rowsOf, ascending, isSound};
 ghost use Rattle.layer.specs.Places.{Wide, Stands};
 ghost use Rattle.layer.specs.Calls.{heldIn, ofValue, ofContains, ofFlags, countIn};
+ghost use Rattle.layer.specs.Changes.{emptyIn};
 use cell::CellAnswer;
 use refusal::Cell;
 use refusal::Refusal;
@@ -228,4 +229,27 @@ pub fn count_values(table: &[u8], count: usize) -> CountAnswer
     ensures { λ r. ⌜ r ≡ countIn 24 (now (table .entry)) count ⌝ }
 {
     cells(table, 24, count)
+}
+
+// Whether a layer has no cells.
+pub enum EmptyAnswer {
+    Empty,
+    Occupied,
+    Refused(Refusal),
+}
+
+// Whether a layer has no cells, if its table is sound.
+fn is_empty(table: &[u8], width: usize, count: usize) -> EmptyAnswer
+    requires { ⌜ Wide width ⌝ }
+    ensures { λ r. ⌜ r ≡ emptyIn width (now (table .entry)) count ⌝ }
+{
+    if is_sound(table, width, count) {
+        if count == 0 {
+            EmptyAnswer::Empty
+        } else {
+            EmptyAnswer::Occupied
+        }
+    } else {
+        EmptyAnswer::Refused(Refusal::BadLayer)
+    }
 }
