@@ -1,3 +1,4 @@
 mod Halves
 mod Answers
+mod Moved
 pub mod OneAnswer

@@ -1,0 +1,91 @@
+-- A record written, and records moved by one record: each as an equation of byte lists. Assumes nothing.
+use mathlib.Core.Path.{_≡_, refl, sym, ap, ap₂, subst, _∙_}
+use mathlib.Core.List.{List, _++_, append-assoc}
+use Prim.Native.Nat.{ℕ, suc, _+_, _-_, _*_, _≤_, _<_}
+use native.Mathlib.Nat.{mul-suc}
+use native.Mathlib.Numerals.{add-one}
+use native.Mathlib.Omega.{arith}
+use lib.ListN.{length, take, drop, length-drop, take-append-drop}
+use lib.Seq.{sets, sets-eq, paste, take-add, drop-drop, take-paste, drop-paste, take-append-le, drop-append-le, take-take, drop-at, length-take-le}
+use Rattle.refusal.specs.declared.Cell.{Cell}
+use Rattle.words.specs.Word.{big, bytesOf, stored, Bytes}
+use Rattle.words.specs.Laws.{sets-append}
+use Rattle.cell.specs.Bytes.{cellAt, cellBytes, cellStored}
+use Rattle.cell.specs.Stored.{length-cellBytes, cell-stored-sets}
+use Rattle.layer.specs.Layer.{rowAt, rowBytes}
+use Rattle.layer.specs.Laws.{row-cell}
+use Rattle.layer.specs.Bytes.{length-rowBytes, row-part}
+use Rattle.layer.specs.Changes.{given}
+
+-- the next record starts where this one ends
+pub next-record : (w i : ℕ) → w * (i + 1) ≡ w * i + w
+next-record w i = ap (λ (j : ℕ). w * j) (add-one i) ∙ omega (arith, mul-suc w i)
+
+-- ---- a record written
+
+-- a cell and then a word, stored one after the other, are the bytes of their row
+row-stored : (w : ℕ) (l : List ℕ) (p : ℕ) (c : Cell) (k : ℕ) → 16 ≤ w → p + w ≤ length l → stored big (w - 16) (cellStored l p c) (p + 16) k ≡ take p l ++ (rowBytes w (given c k) ++ drop (p + w) l)
+unfolding stored rowBytes
+row-stored w l p c k h f =
+    let kept = bytesOf big (w - 16) k in
+    let long : length (cellBytes c ++ kept) ≡ w = length-rowBytes w (given c k) h in
+    ap₂ (λ (m : List ℕ) (n : ℕ). sets m (p + n) kept) (cell-stored-sets l p c) (sym (length-cellBytes c))
+    ∙ sym (sets-append l p (cellBytes c) kept)
+    ∙ rw long at (sets-eq (cellBytes c ++ kept) l p (omega arith))
+    ∙ append-assoc (take p l) (cellBytes c ++ kept) (drop (p + w) l)
+
+pub put : (w n : ℕ) (l : List ℕ) (i : ℕ) (c : Cell) (k : ℕ) {m x : List ℕ} → n ≡ w - 16 → 16 ≤ w → w * (i + 1) ≤ length l → m ≡ cellStored l (w * i) c → x ≡ stored big n m (w * i + 16) k → x ≡ take (w * i) l ++ (rowBytes w (given c k) ++ drop (w * (i + 1)) l)
+put w n l i c k e h f cells kept =
+    kept
+    ∙ ap₂ (λ (n : ℕ) (m : List ℕ). stored big n m (w * i + 16) k) e cells
+    ∙ row-stored w l (w * i) c k h (omega (arith, next-record w i))
+    ∙ ap (λ (p : ℕ). take (w * i) l ++ (rowBytes w (given c k) ++ drop p l)) (sym (next-record w i))
+
+-- what was read of one record and written to another is its bytes
+pub copied : (w : ℕ) (l : List ℕ) (i j : ℕ) {c : Cell} {k : ℕ} {x : List ℕ} → 16 ≤ w → w * (i + 1) ≤ length l → Bytes l → c ≡ cellAt l (w * i) → k ≡ rowAt w l i .kept → x ≡ take (w * j) l ++ (rowBytes w (given c k) ++ drop (w * (j + 1)) l) → x ≡ paste l (w * j) (drop (w * i) l) w
+copied w l i j h f b cell kept written =
+    let row : given _ _ ≡ rowAt w l i = λ t. record { cell = (cell ∙ sym (row-cell w l i)) t; kept = kept t } in
+    written
+    ∙ ap₂ (λ (r : List ℕ) (p : ℕ). take (w * j) l ++ (r ++ drop p l)) (ap (rowBytes w) row ∙ row-part w l i h (omega (arith, next-record w i)) b) (next-record w j)
+    ∙ sym (append-assoc (take (w * j) l) (take w (drop (w * i) l)) (drop (w * j + w) l))
+
+-- ---- records moved
+
+-- what stands before the part that was pasted stays
+part-before : (d : List ℕ) (at : ℕ) (s : List ℕ) (n q k : ℕ) → q + k ≤ at → at ≤ length d → take k (drop q (paste d at s n)) ≡ take k (drop q d)
+part-before d at s n q k h f =
+    let long = length-take-le at d f in
+    let rest = take n s ++ drop (at + n) d in
+    let whole : List ℕ = take at d ++ rest in
+    let dropped : length (drop q (take at d)) ≡ at - q = length-drop q (take at d) ∙ ap (λ (m : ℕ). m - q) long in
+    ap (λ (m : List ℕ). take k (drop q m)) (append-assoc (take at d) (take n s) (drop (at + n) d))
+    ∙ ap (take k) (drop-append-le q (take at d) rest (omega arith))
+    ∙ take-append-le k (drop q (take at d)) rest (omega arith)
+    ∙ sym (take-append-le k (drop q (take at d)) (drop at d) (omega arith))
+    ∙ ap (take k) (sym (drop-append-le q (take at d) (drop at d) (omega arith)))
+    ∙ ap (λ (m : List ℕ). take k (drop q m)) (take-append-drop at d)
+
+-- n bytes from p + w on have moved up by w; now the w before them do
+moved-up : (l : List ℕ) (p w n : ℕ) → p + w + w + n ≤ length l → let m = paste l (p + w + w) (drop (p + w) l) n in paste m (p + w) (drop p m) w ≡ paste l (p + w) (drop p l) (w + n)
+moved-up l p w n f =
+    let m = paste l (p + w + w) (drop (p + w) l) n in
+    let above = drop (p + w + w + n) l in
+    let moving = take n (drop (p + w) l) in
+    let before : take (p + w) m ≡ take (p + w) l = part-before l (p + w + w) (drop (p + w) l) n 0 (p + w) (omega arith) (omega arith) in
+    let here : take w (drop p m) ≡ take w (drop p l) = part-before l (p + w + w) (drop (p + w) l) n p w (omega arith) (omega arith) in
+    let after : drop (p + w + w) m ≡ moving ++ above = ap (drop (p + w + w)) (append-assoc (take (p + w + w) l) moving above) ∙ drop-at (take (p + w + w) l) (moving ++ above) (p + w + w) (length-take-le (p + w + w) l (omega arith)) in
+    let joined : take w (drop p l) ++ moving ≡ take (w + n) (drop p l) = ap (λ (r : List ℕ). take w (drop p l) ++ take n r) (sym (drop-drop w p l)) ∙ sym (take-add w n (drop p l)) in
+    let end : p + w + w + n ≡ p + w + (w + n) = omega arith in
+    rw (before, here, after, ← append-assoc, append-assoc (take (p + w) l), joined, end)
+
+-- n bytes from q + w on have moved down by w; now the w after them do
+moved-down : (l : List ℕ) (q w n : ℕ) → q + w + n + w ≤ length l → let m = paste l q (drop (q + w) l) n in paste m (q + n) (drop (q + w + n) m) w ≡ paste l q (drop (q + w) l) (n + w)
+moved-down l q w n f =
+    let m = paste l q (drop (q + w) l) n in
+    let source = drop (q + w) l in
+    let room = length-drop (q + w) l in
+    let before : take (q + n) m ≡ take q l ++ take n source = take-paste l q source n (omega arith) (omega arith) in
+    let later : (k : ℕ) → drop (q + n + k) m ≡ drop (q + n + k) l = λ k. sym (drop-drop k (q + n) m) ∙ ap (drop k) (drop-paste l q source n (omega arith) (omega arith)) ∙ drop-drop k (q + n) l in
+    let start : q + w + n ≡ q + n + w = omega arith in
+    ap₂ (λ (front rest : List ℕ). front ++ take w rest ++ drop (q + n + w) m) before (ap (λ (k : ℕ). drop k m) start ∙ later w ∙ ap (λ (k : ℕ). drop k l) (sym start) ∙ sym (drop-drop n (q + w) l))
+    ∙ ap₂ _++_ (append-assoc (take q l) (take n source) (take w (drop n source)) ∙ ap (λ (r : List ℕ). take q l ++ r) (sym (take-add n w source))) (later w ∙ ap (λ (k : ℕ). drop k l) (omega arith))
