@@ -1,12 +1,12 @@
 -- A record written, and records moved by one record: each as an equation of byte lists. Assumes nothing.
-use mathlib.Core.Path.{_≡_, refl, sym, ap, ap₂, subst, _∙_}
+use mathlib.Core.Path.{_≡_, refl, sym, ap, ap₂, subst⁻¹, _∙_}
 use mathlib.Core.List.{List, _++_, append-assoc}
 use Prim.Native.Nat.{ℕ, suc, _+_, _-_, _*_, _≤_, _<_}
-use native.Mathlib.Nat.{mul-suc}
+use native.Mathlib.Nat.{mul-suc, mul-le-mul-left, mul-zero, mul-one, mul-add, sub-self}
 use native.Mathlib.Numerals.{add-one}
 use native.Mathlib.Omega.{arith}
 use lib.ListN.{length, take, drop, length-drop, take-append-drop}
-use lib.Seq.{sets, sets-eq, paste, take-add, drop-drop, take-paste, drop-paste, take-append-le, drop-append-le, take-take, drop-at, length-take-le}
+use lib.Seq.{sets, sets-eq, paste, paste-zero, take-add, drop-drop, take-paste, drop-paste, take-append-le, drop-append-le, take-take, drop-at, length-take-le}
 use Rattle.refusal.specs.declared.Cell.{Cell}
 use Rattle.words.specs.Word.{big, bytesOf, stored, Bytes}
 use Rattle.words.specs.Laws.{sets-append}
@@ -20,6 +20,10 @@ use Rattle.layer.specs.Changes.{given}
 -- the next record starts where this one ends
 pub next-record : (w i : ℕ) → w * (i + 1) ≡ w * i + w
 next-record w i = ap (λ (j : ℕ). w * j) (add-one i) ∙ omega (arith, mul-suc w i)
+
+-- and one of n records ends where they end, or before
+pub ends-within : (w n i : ℕ) {long : ℕ} → i < n → w * n ≤ long → w * (i + 1) ≤ long
+ends-within w n i h f = omega (arith, mul-le-mul-left {m = i + 1} {n = n} w (omega arith))
 
 -- ---- a record written
 
@@ -56,7 +60,6 @@ part-before : (d : List ℕ) (at : ℕ) (s : List ℕ) (n q k : ℕ) → q + k �
 part-before d at s n q k h f =
     let long = length-take-le at d f in
     let rest = take n s ++ drop (at + n) d in
-    let whole : List ℕ = take at d ++ rest in
     let dropped : length (drop q (take at d)) ≡ at - q = length-drop q (take at d) ∙ ap (λ (m : ℕ). m - q) long in
     ap (λ (m : List ℕ). take k (drop q m)) (append-assoc (take at d) (take n s) (drop (at + n) d))
     ∙ ap (take k) (drop-append-le q (take at d) rest (omega arith))
@@ -87,5 +90,48 @@ moved-down l q w n f =
     let before : take (q + n) m ≡ take q l ++ take n source = take-paste l q source n (omega arith) (omega arith) in
     let later : (k : ℕ) → drop (q + n + k) m ≡ drop (q + n + k) l = λ k. sym (drop-drop k (q + n) m) ∙ ap (drop k) (drop-paste l q source n (omega arith) (omega arith)) ∙ drop-drop k (q + n) l in
     let start : q + w + n ≡ q + n + w = omega arith in
+    let end : q + n + w ≡ q + (n + w) = omega arith in
     ap₂ (λ (front rest : List ℕ). front ++ take w rest ++ drop (q + n + w) m) before (ap (λ (k : ℕ). drop k m) start ∙ later w ∙ ap (λ (k : ℕ). drop k l) (sym start) ∙ sym (drop-drop n (q + w) l))
-    ∙ ap₂ _++_ (append-assoc (take q l) (take n source) (take w (drop n source)) ∙ ap (λ (r : List ℕ). take q l ++ r) (sym (take-add n w source))) (later w ∙ ap (λ (k : ℕ). drop k l) (omega arith))
+    ∙ ap₂ _++_ (append-assoc (take q l) (take n source) (take w (drop n source)) ∙ ap (λ (r : List ℕ). take q l ++ r) (sym (take-add n w source))) (later w ∙ ap (λ (k : ℕ). drop k l) end)
+
+-- where a number of records is a sum, so are their bytes
+spread : (w a b k : ℕ) → k ≡ a + b → w * k ≡ w * a + w * b
+spread w a b k e = ap (λ (m : ℕ). w * m) e ∙ mul-add w a b
+
+-- the records from j to n stand one further in m than in l, and all else is as it was
+pub record Raised (w : ℕ) (l : List ℕ) (n j : ℕ) (m : List ℕ) : Type 0 where
+  pub within : j ≤ n
+  pub long : length m ≡ length l
+  pub moved : m ≡ paste l (w * (j + 1)) (drop (w * j) l) (w * (n - j))
+
+pub none-raised : (w : ℕ) (l : List ℕ) (n : ℕ) → Raised w l n n l
+none-raised w l n =
+    record {
+      within = omega arith;
+      long = refl;
+      moved = paste-zero l (w * (n + 1)) (drop (w * n) l) ∙ ap (paste l (w * (n + 1)) (drop (w * n) l)) (sym (ap (λ (k : ℕ). w * k) (sub-self n) ∙ mul-zero w));
+    }
+
+pub one-raised : (w : ℕ) (l : List ℕ) (n j : ℕ) {m x : List ℕ} → 0 < j → w * (n + 1) ≤ length l → length x ≡ length m → Raised w l n j m → x ≡ paste m (w * j) (drop (w * (j - 1)) m) w → Raised w l n (j - 1) x
+one-raised w l n j {m} {x} h f same before step =
+    let one = mul-one w in
+    let p = w * (j - 1) in
+    let size = w * (n - j) in
+    let here : w * j ≡ p + w = omega (arith, spread w (j - 1) 1 j (omega arith)) in
+    let next : w * (j + 1) ≡ p + w + w = omega (arith, spread w j 1 (j + 1) refl) in
+    let again : w * (j - 1 + 1) ≡ p + w = omega (arith, spread w (j - 1) 1 (j - 1 + 1) refl) in
+    let more : w * (n - (j - 1)) ≡ w + size = omega (arith, spread w 1 (n - j) (n - (j - 1)) (omega (arith, before .within))) in
+    let room : p + w + w + size ≤ length l = omega (arith, spread w (j + 1) (n - j) (n + 1) (omega (arith, before .within))) in
+    let was : m ≡ paste l (p + w + w) (drop (p + w) l) size = before .moved ∙ ap₂ (λ (a b : ℕ). paste l a (drop b l) size) next here in
+    record {
+      within = omega (arith, before .within);
+      long = same ∙ before .long;
+      moved =
+          step
+          ∙ ap₂ (λ (r : List ℕ) (a : ℕ). paste r a (drop p r) w) was here
+          ∙ moved-up l p w size room
+          ∙ ap₂ (λ (a k : ℕ). paste l a (drop p l) k) (sym again) (sym more);
+    }
+
+pub all-raised : (w : ℕ) (l : List ℕ) (n i j : ℕ) {m : List ℕ} → i ≡ j → Raised w l n j m → m ≡ paste l (w * (i + 1)) (drop (w * i) l) (w * (n - i))
+all-raised w l n i j {m} e h = subst⁻¹ (λ (k : ℕ). m ≡ paste l (w * (k + 1)) (drop (w * k) l) (w * (n - k))) e (h .moved)

@@ -1,46 +1,52 @@
+-- The records from j on have moved.
+use Prim.Native.Nat.{_+_, _-_, _≤_}
+use native.Mathlib.Omega.{arith}
+use borrow.Author.Needs.{needs}
+use Rattle.layer.proofs.Moved.{ends-within, Raised, none-raised, one-raised, all-raised}
 use Rattle.layer.proofs.moves.open_record.Statement.{statement}
 use Rattle.layer.proofs.moves.open_record.Tie as tie
-use Rattle.layer.proofs.moves.open_record.Reads as reads
-use Rattle.layer.proofs.moves.open_record.Lts as lts
-use Rattle.layer.proofs.moves.copy_record.Reads as copy-record-reads
 
 abbrev Inv-loop : tie.InvT-loop
-Inv-loop table₀ width i count j₀ table j = ?
+Inv-loop table₀ width i count j₀ table j = (i ≤ j) × Raised width table₀ count j table
 
 abbrev μ-loop : tie.MeasureT-loop
-μ-loop table₀ width i count j₀ table j = ?
+μ-loop table₀ width i count j₀ table j = j - i
 
--- src/moves.rt:48:5
 loop-holds : tie.Need-loop-holds Inv-loop μ-loop
-loop-holds c = ?
+loop-holds c = let args = c .before .args in (search needs, none-raised (args .width) (args .table .now) (args .count))
 
--- src/moves.rt:49:35
 sub-copy-record : tie.Need-sub-copy-record Inv-loop μ-loop
-sub-copy-record c = ?
+sub-copy-record c = search needs
 
--- src/moves.rt:49:9
 copy-record-requires : tie.Need-copy-record-requires Inv-loop μ-loop
-copy-record-requires c κs = ?
+copy-record-requires c κs =
+    let start = c .before .before .before .before in
+    let args = start .args in
+    let here = c .before .before .loop in (
+      start .pre .0,
+      (omega (arith, ends-within (args .width) (args .count + 1) (here .j - 1) (omega arith) (start .pre .1 .1)), omega (arith, ends-within (args .width) (args .count + 1) (here .j) (omega arith) (start .pre .1 .1))),
+    )
 
--- src/moves.rt:50:9
 sub-j : tie.Need-sub-j Inv-loop μ-loop
-sub-j c = ?
+sub-j c = search needs
 
--- src/moves.rt:48:5
 loop-less : tie.Need-loop-less Inv-loop μ-loop
-loop-less c = ?
+loop-less c = search needs
 
--- src/moves.rt:48:5
 loop-again : tie.Need-loop-again Inv-loop μ-loop
-loop-again c = ?
+loop-again c =
+    let start = c .before .before .before .before .before .before .before in
+    let args = start .args in
+    let here = c .before .before .before .before .before .loop in
+    (omega arith, one-raised (args .width) (args .table .now) (args .count) (here .j) (omega arith) (start .pre .1 .1) (search needs) (here .inv .1) (c .before .before .copy-record .ensures))
 
--- src/moves.rt:41:1
 same-length : tie.Need-same-length Inv-loop μ-loop
-same-length c = ?
+same-length c = search needs
 
--- src/moves.rt:41:1
 returns : tie.Need-returns Inv-loop μ-loop
-returns c = ?
+returns c =
+    let args = c .before .before .before .args in
+    all-raised (args .width) (args .table .now) (args .count) (args .i) (c .before .loop .j) (omega arith) (c .before .loop .inv .1)
 
 pub open-record-spec : {M : Type 1} → statement M
 open-record-spec =
