@@ -1,3 +1,4 @@
+mod Turns
 mod Halves
 mod Answers
 mod Moved

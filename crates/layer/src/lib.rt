@@ -8,7 +8,9 @@ ghost use Rattle.layer.specs.Layer.{roomFor, rowAt, rowsOf, ascending, i
 ghost use Rattle.layer.specs.Places.{Wide, Stands};
 ghost use Rattle.layer.specs.Calls.{heldIn, ofValue, ofContains, ofFlags, countIn};
 ghost use Rattle.layer.specs.Changes.{emptyIn};
+
 pub mod moves;
+pub mod records;
 
 use cell::CellAnswer;
 use refusal::Cell;
