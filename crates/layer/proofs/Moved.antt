@@ -5,7 +5,7 @@ use Prim.Native.Nat.{ℕ, suc, _+_, _-_, _*_, _≤_, _<_}
 use native.Mathlib.Nat.{mul-suc, mul-le-mul-left, mul-zero, mul-one, mul-add, sub-self}
 use native.Mathlib.Numerals.{add-one}
 use native.Mathlib.Omega.{arith}
-use lib.ListN.{length, take, drop, length-drop, take-append-drop}
+use lib.ListN.{length, take, drop, replicate, length-drop, take-append-drop}
 use lib.Seq.{sets, sets-eq, paste, paste-zero, take-add, drop-drop, take-paste, drop-paste, take-append-le, drop-append-le, take-take, drop-at, length-take-le}
 use Rattle.refusal.specs.declared.Cell.{Cell}
 use Rattle.words.specs.Word.{big, bytesOf, stored, Bytes}
@@ -79,7 +79,7 @@ moved-up l p w n f =
     let after : drop (p + w + w) m ≡ moving ++ above = ap (drop (p + w + w)) (append-assoc (take (p + w + w) l) moving above) ∙ drop-at (take (p + w + w) l) (moving ++ above) (p + w + w) (length-take-le (p + w + w) l (omega arith)) in
     let joined : take w (drop p l) ++ moving ≡ take (w + n) (drop p l) = ap (λ (r : List ℕ). take w (drop p l) ++ take n r) (sym (drop-drop w p l)) ∙ sym (take-add w n (drop p l)) in
     let end : p + w + w + n ≡ p + w + (w + n) = omega arith in
-    rw (before, here, after, ← append-assoc, append-assoc (take (p + w) l), joined, end)
+    rw (before, here, after, ← append-assoc (take (p + w) l ++ take w (drop p l)), append-assoc (take (p + w) l) (take w (drop p l)), joined, end)
 
 -- n bytes from q + w on have moved down by w; now the w after them do
 moved-down : (l : List ℕ) (q w n : ℕ) → q + w + n + w ≤ length l → let m = paste l q (drop (q + w) l) n in paste m (q + n) (drop (q + w + n) m) w ≡ paste l q (drop (q + w) l) (n + w)
@@ -135,3 +135,61 @@ one-raised w l n j {m} {x} h f same before step =
 
 pub all-raised : (w : ℕ) (l : List ℕ) (n i j : ℕ) {m : List ℕ} → i ≡ j → Raised w l n j m → m ≡ paste l (w * (i + 1)) (drop (w * i) l) (w * (n - i))
 all-raised w l n i j {m} e h = subst⁻¹ (λ (k : ℕ). m ≡ paste l (w * (k + 1)) (drop (w * k) l) (w * (n - k))) e (h .moved)
+
+-- the records after i and before j stand one further back in m than in l, and all else is as it was
+pub record Lowered (w : ℕ) (l : List ℕ) (i j : ℕ) (m : List ℕ) : Type 0 where
+  pub past : i < j
+  pub long : length m ≡ length l
+  pub moved : m ≡ paste l (w * i) (drop (w * (i + 1)) l) (w * (j - (i + 1)))
+
+pub none-lowered : (w : ℕ) (l : List ℕ) (i : ℕ) → Lowered w l i (i + 1) l
+none-lowered w l i =
+    record {
+      past = omega arith;
+      long = refl;
+      moved = paste-zero l (w * i) (drop (w * (i + 1)) l) ∙ ap (paste l (w * i) (drop (w * (i + 1)) l)) (sym (ap (λ (k : ℕ). w * k) (sub-self (i + 1)) ∙ mul-zero w));
+    }
+
+pub one-lowered : (w : ℕ) (l : List ℕ) (n i j : ℕ) {m x : List ℕ} → j < n → w * n ≤ length l → length x ≡ length m → Lowered w l i j m → x ≡ paste m (w * (j - 1)) (drop (w * j) m) w → Lowered w l i (j + 1) x
+one-lowered w l n i j {m} {x} h f same before step =
+    let one = mul-one w in
+    let q = w * i in
+    let size = w * (j - (i + 1)) in
+    let source : w * (i + 1) ≡ q + w = next-record w i in
+    let to : w * (j - 1) ≡ q + size = spread w i (j - (i + 1)) (j - 1) (omega (arith, before .past)) in
+    let from : w * j ≡ q + w + size = omega (arith, spread w (i + 1) (j - (i + 1)) j (omega (arith, before .past))) in
+    let more : w * (j + 1 - (i + 1)) ≡ size + w = omega (arith, spread w (j - (i + 1)) 1 (j + 1 - (i + 1)) (omega (arith, before .past))) in
+    let room : q + w + size + w ≤ length l = omega (arith, next-record w j, ends-within w n j h f) in
+    let was : m ≡ paste l q (drop (q + w) l) size = before .moved ∙ ap (λ (p : ℕ). paste l q (drop p l) size) source in
+    record {
+      past = omega (arith, before .past);
+      long = same ∙ before .long;
+      moved =
+          step
+          ∙ ap (λ (r : List ℕ). paste r (w * (j - 1)) (drop (w * j) r) w) was
+          ∙ ap₂ (λ (a b : ℕ). paste (paste l q (drop (q + w) l) size) a (drop b (paste l q (drop (q + w) l) size)) w) to from
+          ∙ moved-down l q w size room
+          ∙ ap₂ (λ (p k : ℕ). paste l q (drop p l) k) (sym source) (sym more);
+    }
+
+-- with zeros in the last of the n, record i is gone
+pub closed : (w : ℕ) (l : List ℕ) (n i j : ℕ) {m x : List ℕ} → n ≡ j → w * n ≤ length l → Lowered w l i j m → x ≡ take (w * (n - 1)) m ++ (replicate (w * n - w * (n - 1)) 0 ++ drop (w * n) m) → x ≡ take (w * i) l ++ (take (w * (n - (i + 1))) (drop (w * (i + 1)) l) ++ (replicate w 0 ++ drop (w * n) l))
+closed w l n i j {m} {x} e f h step =
+    let size = w * (n - (i + 1)) in
+    let source = drop (w * (i + 1)) l in
+    let past : i < n = omega (arith, h .past) in
+    let room = length-drop (w * (i + 1)) l in
+    let one = mul-one w in
+    let last : w * n ≡ w * (n - 1) + w = omega (arith, spread w (n - 1) 1 n (omega arith)) in
+    let to : w * (n - 1) ≡ w * i + size = spread w i (n - (i + 1)) (n - 1) (omega arith) in
+    let next = next-record w i in
+    let was : m ≡ paste l (w * i) source size = h .moved ∙ ap (λ (k : ℕ). paste l (w * i) source (w * (k - (i + 1)))) (sym e) in
+    let front : take (w * (n - 1)) m ≡ take (w * i) l ++ take size source = ap₂ take to was ∙ take-paste l (w * i) source size (omega arith) (omega arith) in
+    let gone : w * n - w * (n - 1) ≡ w = omega arith in
+    let end : w * n ≡ w * i + size + w = omega arith in
+    let kept : drop (w * n) m ≡ drop (w * n) l =
+    ap₂ drop end was ∙ sym (drop-drop w (w * i + size) (paste l (w * i) source size)) ∙ ap (drop w) (drop-paste l (w * i) source size (omega arith) (omega arith)) ∙ drop-drop w (w * i + size) l ∙ ap (λ (k : ℕ). drop k l) (sym end) in
+    step
+    ∙ ap₂ (λ (k : ℕ) (r : List ℕ). take (w * (n - 1)) m ++ (replicate k 0 ++ r)) gone kept
+    ∙ ap (λ (r : List ℕ). r ++ (replicate w 0 ++ drop (w * n) l)) front
+    ∙ append-assoc (take (w * i) l) (take size source) (replicate w 0 ++ drop (w * n) l)

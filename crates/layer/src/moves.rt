@@ -8,6 +8,7 @@ ghost use Rattle.layer.specs.Layer.{rowBytes};
 ghost use Rattle.layer.specs.Places.{Wide};
 ghost use Rattle.layer.specs.Changes.{given};
 use crate::kept_at;
+use crate::records;
 use refusal::Cell;
 
 // A record's bytes: the cell, then what is kept of it, of which a record of 20 bytes has the lower 32 bits.
@@ -49,4 +50,19 @@ pub fn open_record(table: &mut [u8], width: usize, i: usize, count: usize)
         copy_record(table, width, j - 1, j);
         j -= 1;
     }
+}
+
+// The records after i, each one back, so that record i is gone; the last one, which is free now, is zeroed.
+pub fn close_record(table: &mut [u8], width: usize, i: usize, count: usize)
+    requires { ⌜ Wide width ⌝ }
+    requires { ⌜ i < count ⌝ }
+    requires { ⌜ width * count ≤ length (now table) ⌝ }
+    ensures { λ _. ⌜ now (table .exit) ≡ take (width * i) (now (table .entry)) ++ (take (width * (count - (i + 1))) (drop (width * (i + 1)) (now (table .entry))) ++ (replicate width 0 ++ drop (width * count) (now (table .entry)))) ⌝ }
+{
+    let mut j = i + 1;
+    while j < count {
+        copy_record(table, width, j, j - 1);
+        j += 1;
+    }
+    records::zero(table, width * (count - 1), width * count);
 }
