@@ -28,6 +28,11 @@ pub data AllStorable (w : ℕ) : List Row → Type 0 where
   no-rows : AllStorable w []
   one-more : {r : Row} {rs : List Row} → Storable w r → AllStorable w rs → AllStorable w (r ∷ rs)
 
+pub flatMap-append {ℓ ℓ′} : {A : Type ℓ} {B : Type ℓ′} (f : A → List B) (l m : List A) → flatMap f (l ++ m) ≡ flatMap f l ++ flatMap f m
+unfolding flatMap
+flatMap-append f [] m = refl
+flatMap-append f (a ∷ l) m = ap (λ r. f a ++ r) (flatMap-append f l m) ∙ sym (append-assoc (f a) (flatMap f l) (flatMap f m))
+
 -- ---- one row
 
 pub length-rowBytes : (w : ℕ) (r : Row) → 16 ≤ w → length (rowBytes w r) ≡ w

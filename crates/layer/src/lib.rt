@@ -9,6 +9,7 @@ ghost use Rattle.layer.specs.Places.{Wide, Stands};
 ghost use Rattle.layer.specs.Calls.{heldIn, ofValue, ofContains, ofFlags, countIn};
 ghost use Rattle.layer.specs.Changes.{emptyIn};
 
+pub mod changes;
 pub mod moves;
 pub mod records;
 
