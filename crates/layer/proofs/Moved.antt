@@ -56,7 +56,7 @@ copied w l i j h f b cell kept written =
 -- ---- records moved
 
 -- what stands before the part that was pasted stays
-part-before : (d : List ℕ) (at : ℕ) (s : List ℕ) (n q k : ℕ) → q + k ≤ at → at ≤ length d → take k (drop q (paste d at s n)) ≡ take k (drop q d)
+pub part-before : (d : List ℕ) (at : ℕ) (s : List ℕ) (n q k : ℕ) → q + k ≤ at → at ≤ length d → take k (drop q (paste d at s n)) ≡ take k (drop q d)
 part-before d at s n q k h f =
     let long = length-take-le at d f in
     let rest = take n s ++ drop (at + n) d in
@@ -95,7 +95,7 @@ moved-down l q w n f =
     ∙ ap₂ _++_ (append-assoc (take q l) (take n source) (take w (drop n source)) ∙ ap (λ (r : List ℕ). take q l ++ r) (sym (take-add n w source))) (later w ∙ ap (λ (k : ℕ). drop k l) end)
 
 -- where a number of records is a sum, so are their bytes
-spread : (w a b k : ℕ) → k ≡ a + b → w * k ≡ w * a + w * b
+pub spread : (w a b k : ℕ) → k ≡ a + b → w * k ≡ w * a + w * b
 spread w a b k e = ap (λ (m : ℕ). w * m) e ∙ mul-add w a b
 
 -- the records from j to n stand one further in m than in l, and all else is as it was

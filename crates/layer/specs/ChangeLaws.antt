@@ -3,7 +3,7 @@ use mathlib.Core.Path.{_≡_, refl, sym, ap, ap₂, subst⁻¹, _∙_}
 use mathlib.Core.Bool.{true, false}
 use mathlib.Core.List.{List, [], _∷_, _++_, flatMap, append-assoc}
 use Prim.Native.Nat.{ℕ, zero, suc, _+_, _-_, _*_, _≤_, _<_}
-use native.Mathlib.Nat.{mul-zero, mul-add, mul-suc, zero-add, add-zero, add-suc, suc-add}
+use native.Mathlib.Nat.{mul-zero, mul-add, mul-suc, zero-add, add-zero, add-suc, suc-add, sub-self}
 use native.Mathlib.Omega.{arith}
 use borrow.Author.Tests.{ltb-true, eqb-true, lt-ltb, le-ltb, ne-eqb}
 use lib.ListN.{length, take, drop, replicate, length-append, take-append-drop}
@@ -144,3 +144,10 @@ module _ (w : ℕ) (l : List ℕ) where
         let count : length (rowsFrom w l 0 i ++ rowsFrom w l j m) ≡ i + m = length-append (rowsFrom w l 0 i) (rowsFrom w l j m) ∙ ap₂ _+_ (length-rowsFrom w l 0 i) (length-rowsFrom w l j m) in
         ap₂ (λ (r : List ℕ) (k : ℕ). r ++ (replicate (w * (n - k)) 0 ++ drop (w * n) l)) (front-bytes (rowsFrom w l j m) ∙ ap (λ (r : List ℕ). take (w * i) l ++ r) (rows-part w l j m least back bytes)) count
         ∙ append-assoc (take (w * i) l) (take (w * m) (drop (w * j) l)) (replicate (w * (n - (i + m))) 0 ++ drop (w * n) l)
+
+  -- the rows that stand there, and no zeros
+  pub refilled-rows : (n : ℕ) → 16 ≤ w → Bytes l → w * n ≤ length l → refilled w n (rowsOf w l n) l ≡ l
+  unfolding rowsOf rowsFrom
+  refilled-rows n least bytes f =
+      let none = mul-zero w in
+      refilled-parts least bytes 0 0 n (omega arith) (omega arith) n ∙ rw (none, zero-add n, sub-self n, none) (take-append-drop (w * n) l)
