@@ -13,19 +13,22 @@ use Rattle.refusal.specs.declared.Cell.{Cell}
 use Rattle.refusal.specs.declared.Room.the-variants as room
 use Rattle.refusal.specs.declared.Refusal.the-variants.{NoRoom}
 use Rattle.words.specs.Word.{Bytes}
+use Rattle.cell.specs.declared.CellAnswer.{CellAnswer}
+use Rattle.cell.specs.Bytes.{fromBytesOf}
 use Rattle.layer.specs.Layer.{Row, nothing, held, heldOf, roomFor, rowAt, rowsFrom, rowsOf, isSound, withRow, withoutCell, rowBytes, laid}
 use Rattle.layer.specs.Places.{Stands, IsAt, GoesBefore}
 use Rattle.layer.specs.Laws.{sound-room, sound-ascending, rows-within, find-is-held, find-is-nothing}
 use Rattle.layer.specs.Bytes.{length-rowsFrom}
 use Rattle.layer.specs.Map.{length-with-new, length-with-held, without-none}
 use Rattle.layer.specs.Calls.{ofHeld}
-use Rattle.layer.specs.Changes.{Changed, changed, given, relaid, refilled}
-use Rattle.layer.specs.ChangeLaws.{with-at, with-before, without-at, laid-parts, refilled-parts, refilled-rows}
+use Rattle.layer.specs.Changes.{Changed, changed, saying, given, relaid, refilled, setBy, setIn, removeBy, removeIn}
+use Rattle.layer.specs.ChangeLaws.{remove-says-held, with-at, with-before, without-at, laid-parts, refilled-parts, refilled-rows}
 use Rattle.layer.specs.declared.Place.the-variants.{At, Before}
 use Rattle.layer.specs.declared.HeldAnswer.{HeldAnswer}
 use Rattle.layer.specs.declared.HeldAnswer.the-variants.{Kept, Nothing}
 use Rattle.layer.specs.declared.CountAnswer.{CountAnswer}
 use Rattle.layer.specs.declared.CountAnswer.the-variants.{Cells, Refused}
+use Rattle.layer.proofs.Answers.{flags-low}
 use Rattle.layer.proofs.Moved.{next-record, ends-within, spread, part-before}
 
 -- rows that there is room for are laid, others refused
@@ -34,6 +37,10 @@ on-room w rs l e h x = ap₂ (λ (k : ℕ) (m : List ℕ). changed (Cells k) m) 
 
 on-none : (w : ℕ) (rs : List Row) (l : List ℕ) → roomFor w l < length rs → changed (Refused (NoRoom room.Layer)) l ≡ relaid w rs l
 on-none w rs l h = sym (ap (λ (t : Bool). cond t (changed (Cells (length rs)) (laid w rs l)) (changed (Refused (NoRoom room.Layer)) l)) (lt-leb (length rs) (roomFor w l) h))
+
+-- a sound layer that is not full has room for one more
+pub more-room : (w : ℕ) (l : List ℕ) (n : ℕ) {r : ℕ} → isSound w l n ≡ true → r ≡ roomFor w l → (n ≡ r → ⊥) → n < roomFor w l
+more-room w l n sound e h = omega (arith, sound-room w l n sound)
 
 module _ (w : ℕ) (l : List ℕ) (n : ℕ) (c : Cell) (i : ℕ) where
   -- ---- a new cell
@@ -55,9 +62,9 @@ module _ (w : ℕ) (l : List ℕ) (n : ℕ) (c : Cell) (i : ℕ) where
         let whole : w * i + w * (n - i) + w ≤ length l = omega (arith, next-record w n, spread w i (n - i) n (omega (arith, place .within))) in
         let front : take (w * i) m ≡ take (w * i) l = ap (take (w * i)) opened ∙ part-before l (w * (i + 1)) (drop (w * i) l) (w * (n - i)) 0 (w * i) (omega arith) here in
         let back : drop (w * (i + 1)) m ≡ moving ++ drop (w * (i + suc (n - i))) l =
-            ap (drop (w * (i + 1))) (opened ∙ append-assoc (take (w * (i + 1)) l) moving (drop (w * (i + 1) + w * (n - i)) l))
-            ∙ drop-at (take (w * (i + 1)) l) (moving ++ drop (w * (i + 1) + w * (n - i)) l) (w * (i + 1)) (length-take-le (w * (i + 1)) l here)
-            ∙ ap (λ (p : ℕ). moving ++ drop p l) (sym last) in
+        ap (drop (w * (i + 1))) (opened ∙ append-assoc (take (w * (i + 1)) l) moving (drop (w * (i + 1) + w * (n - i)) l))
+        ∙ drop-at (take (w * (i + 1)) l) (moving ++ drop (w * (i + 1) + w * (n - i)) l) (w * (i + 1)) (length-take-le (w * (i + 1)) l here)
+        ∙ ap (λ (p : ℕ). moving ++ drop p l) (sym last) in
         put
         ∙ ap₂ (λ (a b : List ℕ). a ++ (rowBytes w (given c k) ++ b)) front back
         ∙ sym (laid-parts w l least bytes i i (n - i) (omega arith) (omega arith) (given c k))
@@ -84,9 +91,9 @@ module _ (w : ℕ) (l : List ℕ) (n : ℕ) (c : Cell) (i : ℕ) where
         let count : n ≡ length rows = sym (length-with-held (given c k) (rowsOf w l n) (rowAt w l i .kept) (sound-ascending w l n sound) (find-is-held w l c n i sound place) ∙ length-rowsFrom w l 0 n) in
         let next : w * (i + 1) ≡ w * suc i = ap (λ (j : ℕ). w * j) (add-one i) in
         let rest : drop (w * (i + 1)) l ≡ take (w * (n - suc i)) (drop (w * suc i) l) ++ drop (w * (i + suc (n - suc i))) l =
-            ap (λ (p : ℕ). drop p l) next
-            ∙ sym (take-append-drop (w * (n - suc i)) (drop (w * suc i) l))
-            ∙ ap (λ (r : List ℕ). take (w * (n - suc i)) (drop (w * suc i) l) ++ r) (drop-drop (w * (n - suc i)) (w * suc i) l ∙ ap (λ (p : ℕ). drop p l) (sym (spread w (suc i) (n - suc i) (i + suc (n - suc i)) (omega arith)))) in
+        ap (λ (p : ℕ). drop p l) next
+        ∙ sym (take-append-drop (w * (n - suc i)) (drop (w * suc i) l))
+        ∙ ap (λ (r : List ℕ). take (w * (n - suc i)) (drop (w * suc i) l) ++ r) (drop-drop (w * (n - suc i)) (w * suc i) l ∙ ap (λ (p : ℕ). drop p l) (sym (spread w (suc i) (n - suc i) (i + suc (n - suc i)) (omega arith)))) in
         on-room w rows l count (omega (arith, count, sound-room w l n sound))
         (put
         ∙ ap (λ (r : List ℕ). take (w * i) l ++ (rowBytes w (given c k) ++ r)) rest
@@ -112,3 +119,25 @@ not-removed w l n c i sound place least bytes =
     ap₂ changed (ap ofHeld (sym none))
     (sym (refilled-rows w l n least bytes (rows-within w l n (sound-room w l n sound)))
     ∙ ap (λ (rs : List Row). refilled w n rs l) (sym (without-none c (rowsOf w l n) none)))
+
+-- ---- the calls, by what their cell's bytes and their table turned out to be
+
+module _ (w : ℕ) (l : List ℕ) (n : ℕ) where
+  pub set-given : (m : List ℕ) (k : ℕ) {a b : CellAnswer} → a ≡ fromBytesOf m → a ≡ b → setBy b w l n k ≡ setIn w l n m k
+  unfolding setIn
+  set-given m k read known = ap (λ (x : CellAnswer). setBy x w l n k) (sym known ∙ read)
+
+  pub remove-given : (m : List ℕ) {a b : CellAnswer} → a ≡ fromBytesOf m → a ≡ b → removeBy b w l n ≡ removeIn w l n m
+  unfolding removeIn
+  remove-given m read known = ap (λ (x : CellAnswer). removeBy x w l n) (sym known ∙ read)
+
+  pub by-soundness : {A : Type 0} {t : Bool} (x y : A) → isSound w l n ≡ t → cond t x y ≡ cond (isSound w l n) x y
+  by-soundness x y e = ap (λ (t : Bool). cond t x y) (sym e)
+
+-- an answer, in the words of another
+pub said-as : {A B : Type 0} (f : A → B) {r q : A} {x : List ℕ} {z : Changed A} → changed r x ≡ z → r ≡ q → changed (f q) x ≡ saying f z
+said-as {A} f {x = x} e known = ap (λ (r : A). changed (f r) x) (sym known) ∙ ap (saying f) e
+
+-- flags that were removed are below 2^32
+pub removed-low : (l : List ℕ) (n : ℕ) (m : List ℕ) {r : HeldAnswer} {x : List ℕ} {k : ℕ} → Bytes l → changed r x ≡ removeIn 20 l n m → r ≡ Kept k → k < 4294967296
+removed-low l n m bytes e known = flags-low l bytes n m (ap (λ (z : Changed HeldAnswer). z .said) e ∙ remove-says-held 20 l n m) known

@@ -1,6 +1,6 @@
 -- What a cell's place says of the records: where `set` and `remove` change them, by index, and which bytes of the table that is. Over the width of a record. Assumes nothing.
 use mathlib.Core.Path.{_≡_, refl, sym, ap, ap₂, subst⁻¹, _∙_}
-use mathlib.Core.Bool.{true, false}
+use mathlib.Core.Bool.{Bool, true, false, cond}
 use mathlib.Core.List.{List, [], _∷_, _++_, flatMap, append-assoc}
 use Prim.Native.Nat.{ℕ, zero, suc, _+_, _-_, _*_, _≤_, _<_}
 use native.Mathlib.Nat.{mul-zero, mul-add, mul-suc, zero-add, add-zero, add-suc, suc-add, sub-self}
@@ -10,13 +10,20 @@ use lib.ListN.{length, take, drop, replicate, length-append, take-append-drop}
 use lib.Seq.{drop-drop}
 use Rattle.refusal.specs.declared.Cell.{Cell}
 use Rattle.refusal.specs.Table.{rawOf}
+use Rattle.refusal.specs.declared.Refusal.the-variants.{BadLayer}
 use Rattle.words.specs.Word.{Bytes}
+use Rattle.cell.specs.declared.CellAnswer.{CellAnswer}
+use Rattle.cell.specs.declared.CellAnswer.the-variants as cell
+use Rattle.cell.specs.Bytes.{fromBytesOf}
 use Rattle.cell.specs.Cell.{sameCell, lessCell}
-use Rattle.layer.specs.Layer.{Row, rowAt, rowsFrom, rowsOf, isSound, withRow, withoutCell, rowBytes, laid}
+use Rattle.layer.specs.Layer.{Row, rowAt, rowsFrom, rowsOf, isSound, heldOf, withRow, withoutCell, rowBytes, laid}
 use Rattle.layer.specs.Places.{IsAt, GoesBefore}
 use Rattle.layer.specs.Laws.{sound-less}
 use Rattle.layer.specs.Bytes.{flatMap-append, length-rowsFrom, rows-part}
-use Rattle.layer.specs.Changes.{given, refilled}
+use Rattle.layer.specs.Changes.{changed, given, refilled, removeBy, removeIn}
+use Rattle.layer.specs.Calls.{ofHeld, heldBy, heldIn}
+use Rattle.layer.specs.declared.HeldAnswer.{HeldAnswer}
+use Rattle.layer.specs.declared.HeldAnswer.the-variants as kept
 
 -- ---- the first row
 
@@ -46,6 +53,21 @@ without-other c r rs e = rw (differs (r .cell) c e)
 without-same : (c : Cell) (r : Row) (rs : List Row) → sameCell (r .cell) c ≡ true → withoutCell c (r ∷ rs) ≡ rs
 unfolding withoutCell
 without-same c r rs e = rw e
+
+-- ---- what is said
+
+-- remove says what get would have said
+pub remove-says-held : (w : ℕ) (l : List ℕ) (n : ℕ) (m : List ℕ) → removeIn w l n m .said ≡ heldIn w l n m
+unfolding removeIn heldIn
+remove-says-held w l n m = by-cell (fromBytesOf m)
+  where
+    by-test : (t : Bool) (h : HeldAnswer) (x : List ℕ) → cond t (changed h x) (changed (kept.Refused BadLayer) l) .said ≡ cond t h (kept.Refused BadLayer)
+    by-test true h x = refl
+    by-test false h x = refl
+
+    by-cell : (a : CellAnswer) → removeBy a w l n .said ≡ heldBy a w l n
+    by-cell (cell.Refused r) = refl
+    by-cell (cell.Is c) = by-test (isSound w l n) (ofHeld (heldOf c (rowsOf w l n))) (refilled w n (withoutCell c (rowsOf w l n)) l)
 
 -- ---- rows by index
 

@@ -1,51 +1,48 @@
+-- First the cell's bytes, then the table, then the change.
+use mathlib.Core.Path.{sym, _∙_}
+use Rattle.layer.proofs.Rewritten.{remove-given, by-soundness}
 use borrow.Author.Needs.{needs}
 use Rattle.layer.proofs.changes.remove.Statement.{statement}
 use Rattle.layer.proofs.changes.remove.Tie as tie
-use Rattle.layer.proofs.changes.remove.Reads as reads
-use Rattle.layer.proofs.changes.remove.Lts as lts
-use Rattle.cell.proofs.from_bytes.Reads as from-bytes-reads
-use Rattle.layer.proofs.changes.remove_cell.Reads as remove-cell-reads
-use Rattle.layer.proofs.is_sound.Reads as is-sound-reads
 
--- src/changes.rt:108:9
 from-bytes-requires : tie.Need-from-bytes-requires
 from-bytes-requires c κs = search needs
 
--- src/changes.rt:110:29
 enum-known-given : tie.Need-enum-known-given
 enum-known-given c = search needs
 
--- src/changes.rt:111:24
 enum-known-given-2 : tie.Need-enum-known-given-2
 enum-known-given-2 c = search needs
 
--- src/changes.rt:112:16
 is-sound-requires : tie.Need-is-sound-requires
 is-sound-requires c κs = search needs
 
--- src/changes.rt:113:17
 remove-cell-requires : tie.Need-remove-cell-requires
-remove-cell-requires c κs = ?
+remove-cell-requires c κs = (c .before .before .before .before .before .before .before .before .before .before .pre, sym (c .before .before .is-sound .ensures) ∙ c .before .if1 .taken)
 
--- src/changes.rt:104:1
 returns : tie.Need-returns
-returns c = ?
+returns c =
+    let args = c .before .before .before .before .before .before .args in
+    remove-given (args .width) (args .table .now) (args .count) (args .cell .now) (c .before .before .before .from-bytes .ensures) (c .before .given .given .1)
 
--- src/changes.rt:104:1
 same-length : tie.Need-same-length
 same-length c = search needs
 
--- src/changes.rt:104:1
 returns-2 : tie.Need-returns-2
-returns-2 c = ?
+returns-2 c =
+    let args = c .before .before .before .before .before .before .before .before .before .before .before .before .before .args in
+    c .before .before .remove-cell .ensures
+    ∙ by-soundness (args .width) (args .table .now) (args .count) _ _ (sym (c .before .before .before .before .before .is-sound .ensures) ∙ c .before .before .before .before .if1 .taken)
+    ∙ remove-given (args .width) (args .table .now) (args .count) (args .cell .now) (c .before .before .before .before .before .before .before .before .before .before .from-bytes .ensures) (c .before .before .before .before .before .before .before .before .given2 .given .1)
 
--- src/changes.rt:104:1
 same-length-2 : tie.Need-same-length-2
 same-length-2 c = search needs
 
--- src/changes.rt:104:1
 returns-3 : tie.Need-returns-3
-returns-3 c = ?
+returns-3 c =
+    let args = c .before .before .before .before .before .before .before .before .before .args in
+    by-soundness (args .width) (args .table .now) (args .count) _ _ (sym (c .before .is-sound .ensures) ∙ c .if1 .left)
+    ∙ remove-given (args .width) (args .table .now) (args .count) (args .cell .now) (c .before .before .before .before .before .before .from-bytes .ensures) (c .before .before .before .before .given2 .given .1)
 
 pub remove-spec : {M : Type 1} → statement M
 remove-spec =
