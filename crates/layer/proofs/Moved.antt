@@ -1,12 +1,12 @@
 -- A record written, and records moved by one record: each as an equation of byte lists. Assumes nothing.
 use mathlib.Core.Path.{_≡_, refl, sym, ap, ap₂, subst⁻¹, _∙_}
 use mathlib.Core.List.{List, _++_, append-assoc}
-use Prim.Native.Nat.{ℕ, suc, _+_, _-_, _*_, _≤_, _<_}
+use Prim.Native.Nat.{ℕ, _+_, _-_, _*_, _≤_, _<_}
 use native.Mathlib.Nat.{mul-suc, mul-le-mul-left, mul-zero, mul-one, mul-add, sub-self}
 use native.Mathlib.Numerals.{add-one}
 use native.Mathlib.Omega.{arith}
 use lib.ListN.{length, take, drop, replicate, length-drop, take-append-drop}
-use lib.Seq.{sets, sets-eq, paste, paste-zero, take-add, drop-drop, take-paste, drop-paste, take-append-le, drop-append-le, take-take, drop-at, length-take-le}
+use lib.Seq.{sets, sets-eq, paste, paste-zero, take-add, drop-drop, take-paste, drop-paste, take-append-le, drop-append-le, drop-at, length-take-le}
 use Rattle.refusal.specs.declared.Cell.{Cell}
 use Rattle.words.specs.Word.{big, bytesOf, stored, Bytes}
 use Rattle.words.specs.Laws.{sets-append}

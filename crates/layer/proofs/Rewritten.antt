@@ -1,7 +1,7 @@
 -- What the moves leave in a table is the table of the changed rows. Assumes nothing.
-use mathlib.Core.Path.{_≡_, refl, sym, ap, ap₂, subst, _∙_}
+use mathlib.Core.Path.{_≡_, sym, ap, ap₂, _∙_}
 use mathlib.Core.Bool.{Bool, true, cond}
-use mathlib.Core.List.{List, _∷_, _++_, append-assoc}
+use mathlib.Core.List.{List, _++_, append-assoc}
 use Prim.Native.Nat.{ℕ, suc, _+_, _-_, _*_, _≤_, _<_}
 use native.Mathlib.Nat.{mul-one, mul-suc}
 use native.Mathlib.Numerals.{add-one}
@@ -15,7 +15,7 @@ use Rattle.refusal.specs.declared.Refusal.the-variants.{NoRoom}
 use Rattle.words.specs.Word.{Bytes}
 use Rattle.cell.specs.declared.CellAnswer.{CellAnswer}
 use Rattle.cell.specs.Bytes.{fromBytesOf}
-use Rattle.layer.specs.Layer.{Row, nothing, held, heldOf, roomFor, rowAt, rowsFrom, rowsOf, isSound, withRow, withoutCell, rowBytes, laid}
+use Rattle.layer.specs.Layer.{Row, heldOf, roomFor, rowAt, rowsOf, isSound, withRow, withoutCell, rowBytes, laid}
 use Rattle.layer.specs.Places.{Stands, IsAt, GoesBefore}
 use Rattle.layer.specs.Laws.{sound-room, sound-ascending, rows-within, find-is-held, find-is-nothing}
 use Rattle.layer.specs.Bytes.{length-rowsFrom}
@@ -23,10 +23,8 @@ use Rattle.layer.specs.Map.{length-with-new, length-with-held, without-n
 use Rattle.layer.specs.Calls.{ofHeld}
 use Rattle.layer.specs.Changes.{Changed, changed, saying, given, relaid, refilled, setBy, setIn, removeBy, removeIn}
 use Rattle.layer.specs.ChangeLaws.{remove-says-held, with-at, with-before, without-at, laid-parts, refilled-parts, refilled-rows}
-use Rattle.layer.specs.declared.Place.the-variants.{At, Before}
 use Rattle.layer.specs.declared.HeldAnswer.{HeldAnswer}
 use Rattle.layer.specs.declared.HeldAnswer.the-variants.{Kept, Nothing}
-use Rattle.layer.specs.declared.CountAnswer.{CountAnswer}
 use Rattle.layer.specs.declared.CountAnswer.the-variants.{Cells, Refused}
 use Rattle.layer.proofs.Answers.{flags-low}
 use Rattle.layer.proofs.Moved.{next-record, ends-within, spread, part-before}

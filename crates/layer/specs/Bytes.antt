@@ -10,7 +10,7 @@ use lib.ListN.{length, take, drop, length-append, length-drop, take-append-drop}
 use lib.Seq.{drop-at, drop-drop, take-add}
 use Rattle.refusal.specs.declared.Cell.{Cell}
 use Rattle.words.specs.Word.{big, word, bytesOf, Bytes}
-use Rattle.words.specs.Laws.{length-bytesOf, word-bytesOf, word-append-left, word-append-right, word-drop, word-lt, bytesOf-part, bytes-drop}
+use Rattle.words.specs.Laws.{length-bytesOf, word-bytesOf, word-append-left, word-append-right, word-drop, word-lt, bytesOf-part}
 use Rattle.cell.specs.Cell.{sameCell, lessCell}
 use Rattle.cell.specs.Bytes.{cellAt, cellBytes}
 use Rattle.cell.specs.Stored.{length-cellBytes}

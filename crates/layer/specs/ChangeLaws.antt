@@ -1,13 +1,12 @@
 -- What a cell's place says of the records: where `set` and `remove` change them, by index, and which bytes of the table that is. Over the width of a record. Assumes nothing.
-use mathlib.Core.Path.{_≡_, refl, sym, ap, ap₂, subst⁻¹, _∙_}
+use mathlib.Core.Path.{_≡_, refl, ap, ap₂, _∙_}
 use mathlib.Core.Bool.{Bool, true, false, cond}
-use mathlib.Core.List.{List, [], _∷_, _++_, flatMap, append-assoc}
+use mathlib.Core.List.{List, _∷_, _++_, flatMap, append-assoc}
 use Prim.Native.Nat.{ℕ, zero, suc, _+_, _-_, _*_, _≤_, _<_}
-use native.Mathlib.Nat.{mul-zero, mul-add, mul-suc, zero-add, add-zero, add-suc, suc-add, sub-self}
+use native.Mathlib.Nat.{mul-zero, zero-add, add-zero, add-suc, suc-add, sub-self}
 use native.Mathlib.Omega.{arith}
 use borrow.Author.Tests.{ltb-true, eqb-true, lt-ltb, le-ltb, ne-eqb}
 use lib.ListN.{length, take, drop, replicate, length-append, take-append-drop}
-use lib.Seq.{drop-drop}
 use Rattle.refusal.specs.declared.Cell.{Cell}
 use Rattle.refusal.specs.Table.{rawOf}
 use Rattle.refusal.specs.declared.Refusal.the-variants.{BadLayer}

@@ -1,8 +1,7 @@
 -- The records from the cell's place on move, and its own is written there.
-use Prim.Native.Nat.{_+_, _<_}
-use mathlib.Core.Path.{sym, _∙_}
+use Prim.Native.Nat.{_+_}
+use mathlib.Core.Path.{_∙_}
 use native.Mathlib.Omega.{arith}
-use Rattle.layer.specs.Layer.{roomFor}
 use Rattle.layer.specs.Laws.{rows-within}
 use Rattle.layer.proofs.Moved.{ends-within}
 use Rattle.layer.proofs.Rewritten.{more-room, no-room, inserted}

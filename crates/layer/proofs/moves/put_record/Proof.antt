@@ -1,5 +1,5 @@
 -- The cell and what is kept, one after the other.
-use mathlib.Core.Path.{refl, _∙_}
+use mathlib.Core.Path.{_∙_}
 use native.Mathlib.Omega.{arith}
 use Rattle.words.specs.Word.{big}
 use Rattle.words.specs.Laws.{stored-mod}
