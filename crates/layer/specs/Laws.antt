@@ -96,7 +96,6 @@ module _ (w : ℕ) (l : List ℕ) where
       let room : n ≤ length l / w = omega (arith, min-le-right mostCells (length l / w)) in
       omega (arith, mul-le-mul-left w room, mul-div-le (length l) w)
 
-  -- and so does each of them
   pub row-within : (n i : ℕ) → n ≤ roomFor w l → i < n → w * i + w ≤ length l
   row-within n i h b = omega (arith, mul-suc w i, rows-within (suc i) (omega arith))
 

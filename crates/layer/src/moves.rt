@@ -26,8 +26,8 @@ pub fn put_record(table: &mut [u8], width: usize, i: usize, c: Cell, kept: u64)
     }
 }
 
-// One record over another.
-fn copy_record(table: &mut [u8], width: usize, from: usize, to: usize)
+// One record over another of the same table.
+fn shift_record(table: &mut [u8], width: usize, from: usize, to: usize)
     requires { ⌜ Wide width ⌝ }
     requires { ⌜ width * (from + 1) ≤ length (now table) ⌝ }
     requires { ⌜ width * (to + 1) ≤ length (now table) ⌝ }
@@ -47,7 +47,7 @@ pub fn open_record(table: &mut [u8], width: usize, i: usize, count: usize)
 {
     let mut j = count;
     while i < j {
-        copy_record(table, width, j - 1, j);
+        shift_record(table, width, j - 1, j);
         j -= 1;
     }
 }
@@ -61,7 +61,7 @@ pub fn close_record(table: &mut [u8], width: usize, i: usize, count: usize)
 {
     let mut j = i + 1;
     while j < count {
-        copy_record(table, width, j, j - 1);
+        shift_record(table, width, j, j - 1);
         j += 1;
     }
     records::zero(table, width * (count - 1), width * count);

@@ -19,11 +19,11 @@ add-j c = search needs
 loop-holds : tie.Need-loop-holds Inv-loop μ-loop
 loop-holds c = let args = c .before .args in (search needs, none-lowered (args .width) (args .table .now) (args .i))
 
-sub-copy-record : tie.Need-sub-copy-record Inv-loop μ-loop
-sub-copy-record c = search needs
+sub-shift-record : tie.Need-sub-shift-record Inv-loop μ-loop
+sub-shift-record c = search needs
 
-copy-record-requires : tie.Need-copy-record-requires Inv-loop μ-loop
-copy-record-requires c κs =
+shift-record-requires : tie.Need-shift-record-requires Inv-loop μ-loop
+shift-record-requires c κs =
     let start = c .before .before .before .before in
     let args = start .args in
     let here = c .before .before .loop in (
@@ -42,7 +42,7 @@ loop-again c =
     let start = c .before .before .before .before .before .before .before in
     let args = start .args in
     let here = c .before .before .before .before .before .loop in
-    (omega arith, one-lowered (args .width) (args .table .now) (args .count) (args .i) (here .j) (omega arith) (start .pre .1 .1) (search needs) (here .inv .1) (c .before .before .copy-record .ensures))
+    (omega arith, one-lowered (args .width) (args .table .now) (args .count) (args .i) (here .j) (omega arith) (start .pre .1 .1) (search needs) (here .inv .1) (c .before .before .shift-record .ensures))
 
 sub-zero : tie.Need-sub-zero Inv-loop μ-loop
 sub-zero c = search needs
@@ -74,8 +74,8 @@ close-record-spec =
     μ-loop
     add-j
     loop-holds
-    sub-copy-record
-    copy-record-requires
+    sub-shift-record
+    shift-record-requires
     add-j-2
     loop-less
     loop-again

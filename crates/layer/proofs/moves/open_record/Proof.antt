@@ -15,11 +15,11 @@ abbrev μ-loop : tie.MeasureT-loop
 loop-holds : tie.Need-loop-holds Inv-loop μ-loop
 loop-holds c = let args = c .before .args in (search needs, none-raised (args .width) (args .table .now) (args .count))
 
-sub-copy-record : tie.Need-sub-copy-record Inv-loop μ-loop
-sub-copy-record c = search needs
+sub-shift-record : tie.Need-sub-shift-record Inv-loop μ-loop
+sub-shift-record c = search needs
 
-copy-record-requires : tie.Need-copy-record-requires Inv-loop μ-loop
-copy-record-requires c κs =
+shift-record-requires : tie.Need-shift-record-requires Inv-loop μ-loop
+shift-record-requires c κs =
     let start = c .before .before .before .before in
     let args = start .args in
     let here = c .before .before .loop in (
@@ -38,7 +38,7 @@ loop-again c =
     let start = c .before .before .before .before .before .before .before in
     let args = start .args in
     let here = c .before .before .before .before .before .loop in
-    (omega arith, one-raised (args .width) (args .table .now) (args .count) (here .j) (omega arith) (start .pre .1 .1) (search needs) (here .inv .1) (c .before .before .copy-record .ensures))
+    (omega arith, one-raised (args .width) (args .table .now) (args .count) (here .j) (omega arith) (start .pre .1 .1) (search needs) (here .inv .1) (c .before .before .shift-record .ensures))
 
 same-length : tie.Need-same-length Inv-loop μ-loop
 same-length c = search needs
@@ -55,8 +55,8 @@ open-record-spec =
     Inv-loop
     μ-loop
     loop-holds
-    sub-copy-record
-    copy-record-requires
+    sub-shift-record
+    shift-record-requires
     sub-j
     loop-less
     loop-again

@@ -2,8 +2,8 @@
 use native.Mathlib.Omega.{arith}
 use Rattle.layer.proofs.Moved.{copied}
 use borrow.Author.Needs.{needs}
-use Rattle.layer.proofs.moves.copy_record.Statement.{statement}
-use Rattle.layer.proofs.moves.copy_record.Tie as tie
+use Rattle.layer.proofs.moves.shift_record.Statement.{statement}
+use Rattle.layer.proofs.moves.shift_record.Tie as tie
 
 mul-read-at : tie.Need-mul-read-at
 mul-read-at c = search needs
@@ -26,8 +26,8 @@ returns c =
     let args = start .before .args in
     copied (args .width) (args .table .now) (args .from) (args .to) (omega arith) (start .before .pre .1 .0) (λ i. omega (arith, start .slice-known .given i)) (c .before .before .before .before .before .before .read-at .ensures) (c .before .before .before .before .kept-at .ensures) (c .before .before .put-record .ensures)
 
-pub copy-record-spec : {M : Type 1} → statement M
-copy-record-spec =
+pub shift-record-spec : {M : Type 1} → statement M
+shift-record-spec =
     tie.close
     (tie.spec
     mul-read-at
