@@ -64,5 +64,7 @@ pub fn close_record(table: &mut [u8], width: usize, i: usize, count: usize)
         shift_record(table, width, j, j - 1);
         j += 1;
     }
-    records::zero(table, width * (count - 1), width * count);
+    let last = width * (count - 1);
+    let end = width * count;
+    records::zero(table, last, end);
 }

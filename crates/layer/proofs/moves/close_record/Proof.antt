@@ -44,14 +44,14 @@ loop-again c =
     let here = c .before .before .before .before .before .loop in
     (omega arith, one-lowered (args .width) (args .table .now) (args .count) (args .i) (here .j) (omega arith) (start .pre .1 .1) (search needs) (here .inv .1) (c .before .before .shift-record .ensures))
 
-sub-zero : tie.Need-sub-zero Inv-loop μ-loop
-sub-zero c = search needs
+sub-last : tie.Need-sub-last Inv-loop μ-loop
+sub-last c = search needs
 
-mul-zero : tie.Need-mul-zero Inv-loop μ-loop
-mul-zero c = let args = c .before .before .before .before .args in omega (arith, mul-le-mul-left {m = args .count - 1} {n = args .count} (args .width) (omega arith))
+mul-last : tie.Need-mul-last Inv-loop μ-loop
+mul-last c = let args = c .before .before .before .args in omega (arith, mul-le-mul-left {m = args .count - 1} {n = args .count} (args .width) (omega arith))
 
-mul-zero-2 : tie.Need-mul-zero-2 Inv-loop μ-loop
-mul-zero-2 c = search needs
+mul-end : tie.Need-mul-end Inv-loop μ-loop
+mul-end c = search needs
 
 zero-requires : tie.Need-zero-requires Inv-loop μ-loop
 zero-requires c κs = let args = c .before .before .before .before .args in omega (arith, mul-le-mul-left {m = args .count - 1} {n = args .count} (args .width) (omega arith))
@@ -79,9 +79,9 @@ close-record-spec =
     add-j-2
     loop-less
     loop-again
-    sub-zero
-    mul-zero
-    mul-zero-2
+    sub-last
+    mul-last
+    mul-end
     zero-requires
     same-length
     returns)
