@@ -36,10 +36,6 @@ on-room w rs l e h x = ap₂ (λ (k : ℕ) (m : List ℕ). changed (Cells k) m) 
 on-none : (w : ℕ) (rs : List Row) (l : List ℕ) → roomFor w l < length rs → changed (Refused (NoRoom room.Layer)) l ≡ relaid w rs l
 on-none w rs l h = sym (ap (λ (t : Bool). cond t (changed (Cells (length rs)) (laid w rs l)) (changed (Refused (NoRoom room.Layer)) l)) (lt-leb (length rs) (roomFor w l) h))
 
--- a sound layer that is not full has room for one more
-pub more-room : (w : ℕ) (l : List ℕ) (n : ℕ) {r : ℕ} → isSound w l n ≡ true → r ≡ roomFor w l → (n ≡ r → ⊥) → n < roomFor w l
-more-room w l n sound e h = omega (arith, sound-room w l n sound)
-
 module _ (w : ℕ) (l : List ℕ) (n : ℕ) (c : Cell) (i : ℕ) where
   -- ---- a new cell
 

@@ -1,10 +1,10 @@
 -- The records from the cell's place on move, and its own is written there.
-use Prim.Native.Nat.{_+_}
-use mathlib.Core.Path.{_∙_}
+use Prim.Native.Nat.{_+_, _<_}
 use native.Mathlib.Omega.{arith}
-use Rattle.layer.specs.Laws.{rows-within}
+use Rattle.layer.specs.Layer.{roomFor}
+use Rattle.layer.specs.Laws.{sound-room, rows-within}
 use Rattle.layer.proofs.Moved.{ends-within}
-use Rattle.layer.proofs.Rewritten.{more-room, no-room, inserted}
+use Rattle.layer.proofs.Rewritten.{no-room, inserted}
 use borrow.Author.Needs.{needs}
 use Rattle.layer.proofs.changes.insert.Statement.{statement}
 use Rattle.layer.proofs.changes.insert.Tie as tie
@@ -19,27 +19,27 @@ returns : tie.Need-returns
 returns c =
     let start = c .before .before .before .before in
     let args = start .args in
-    no-room (args .width) (args .table .now) (args .count) (args .c) (args .i) (start .pre .1 .1) (args .kept) (c .if1 .taken ∙ c .before .room-for .ensures)
+    no-room (args .width) (args .table .now) (args .count) (args .c) (args .i) (start .pre .1 .1) (args .kept) (omega (arith, sound-room (args .width) (args .table .now) (args .count) (start .pre .1 .0)))
 
 open-record-requires : tie.Need-open-record-requires
 open-record-requires c κs =
     let start = c .before .before .before .before .before in
     let args = start .args in
-    let room = more-room (args .width) (args .table .now) (args .count) (start .pre .1 .0) (c .before .before .room-for .ensures) (c .before .if1 .left) in
+    let room : args .count < roomFor (args .width) (args .table .now) = omega (arith, sound-room (args .width) (args .table .now) (args .count) (start .pre .1 .0)) in
     (start .pre .0, (start .pre .1 .1 .within, rows-within (args .width) (args .table .now) (args .count + 1) (omega arith)))
 
 put-record-requires : tie.Need-put-record-requires
 put-record-requires c κs =
     let start = c .before .before .before .before .before .before .before .before .before in
     let args = start .args in
-    let room = more-room (args .width) (args .table .now) (args .count) (start .pre .1 .0) (c .before .before .before .before .before .before .room-for .ensures) (c .before .before .before .before .before .if1 .left) in
+    let room : args .count < roomFor (args .width) (args .table .now) = omega (arith, sound-room (args .width) (args .table .now) (args .count) (start .pre .1 .0)) in
     (start .pre .0, omega (arith, ends-within (args .width) (args .count + 1) (args .i) (omega (arith, start .pre .1 .1 .within)) (rows-within (args .width) (args .table .now) (args .count + 1) (omega arith))))
 
 add-t7 : tie.Need-add-t7
 add-t7 c =
     let start = c .before .before .before .before .before .before .before .before .before .before .before .before in
     let args = start .args in
-    omega (arith, more-room (args .width) (args .table .now) (args .count) (start .pre .1 .0) (c .before .before .before .before .before .before .before .before .before .room-for .ensures) (c .before .before .before .before .before .before .before .before .if1 .left))
+    omega (arith, sound-room (args .width) (args .table .now) (args .count) (start .pre .1 .0))
 
 same-length-2 : tie.Need-same-length-2
 same-length-2 c = search needs
@@ -49,7 +49,7 @@ returns-2 c =
     let start = c .before .before .before .before .before .before .before .before .before .before .before .before in
     let args = start .args in
     inserted (args .width) (args .table .now) (args .count) (args .c) (args .i) (start .pre .1 .1) (args .kept) (omega arith) (λ k. omega (arith, c .before .before .before .before .before .before .before .before .before .before .before .slice-known .given k))
-    (more-room (args .width) (args .table .now) (args .count) (start .pre .1 .0) (c .before .before .before .before .before .before .before .before .before .room-for .ensures) (c .before .before .before .before .before .before .before .before .if1 .left))
+    (omega (arith, sound-room (args .width) (args .table .now) (args .count) (start .pre .1 .0)))
     (c .before .before .before .before .before .before .open-record .ensures) (c .before .before .put-record .ensures)
 
 pub insert-spec : {M : Type 1} → statement M
