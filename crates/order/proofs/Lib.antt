@@ -1,3 +1,4 @@
 mod Runs
 mod Counting
 mod Merging
+mod Halves
