@@ -75,22 +75,29 @@ module _ (w : ℕ) (l : List ℕ) where
   unfolding isSound
   sound-room n e = leb-true n (roomFor w l) (both (leb n (roomFor w l)) (ascending (rowsOf w l n)) e .0)
 
-  -- and they ascend: of any two the earlier one is below the other
-  pub sound-less : (n : ℕ) → isSound w l n ≡ true → (k j : ℕ) → j < k → k < n → lessCell (rowAt w l j .cell) (rowAt w l k .cell) ≡ true
+  -- and they ascend
+  pub sound-ascending : (n : ℕ) → isSound w l n ≡ true → ascending (rowsOf w l n) ≡ true
   unfolding isSound
+  sound-ascending n e = both (leb n (roomFor w l)) (ascending (rowsOf w l n)) e .1
+
+  -- of any two the earlier one is below the other
+  pub sound-less : (n : ℕ) → isSound w l n ≡ true → (k j : ℕ) → j < k → k < n → lessCell (rowAt w l j .cell) (rowAt w l k .cell) ≡ true
   sound-less n e zero j h b = absurd (omega arith)
   sound-less n e (suc k) j h b =
-      let last = ascended n (both (leb n (roomFor w l)) (ascending (rowsOf w l n)) e .1) k b in
+      let last = ascended n (sound-ascending n e) k b in
       ⊎-elim
       (λ (q : j ≡ k). subst (λ (m : ℕ). lessCell (rowAt w l m .cell) (rowAt w l (suc k) .cell) ≡ true) (sym q) last)
       (λ (q : j < k). less-transitive (rowAt w l j .cell) (rowAt w l k .cell) (rowAt w l (suc k) .cell) (sound-less n e k j q (omega arith)) last)
       (eq-or-lt-of-le {n = j} {m = k} (omega arith))
 
-  -- a record that there is room for lies within the table
+  -- records that there is room for lie within the table
+  pub rows-within : (n : ℕ) → n ≤ roomFor w l → w * n ≤ length l
+  rows-within n h =
+      let room : n ≤ length l / w = omega (arith, min-le-right mostCells (length l / w)) in
+      omega (arith, mul-le-mul-left w room, mul-div-le (length l) w)
+
   pub row-within : (n i : ℕ) → n ≤ roomFor w l → i < n → w * i + w ≤ length l
-  row-within n i h b =
-      let room : suc i ≤ length l / w = omega (arith, min-le-right mostCells (length l / w)) in
-      omega (arith, mul-suc w i, mul-le-mul-left w room, mul-div-le (length l) w)
+  row-within n i h b = omega (arith, mul-suc w i, rows-within (suc i) (omega arith))
 
 -- ---- what is kept of a cell that was searched for
 
