@@ -24,6 +24,16 @@ pub fn value(bits: u64) -> f64
     f64::from_bits(bits)
 }
 
+// The number of any pattern: a NaN's is a NaN.
+pub fn number(bits: u64) -> f64
+    ensures { λ r. ⌜ r ≡ ofBits binary64 bits ⌝ }
+{
+    if is_nan(bits) {
+        return 0.0 / 0.0;
+    }
+    value(bits)
+}
+
 // The pattern of a number.
 pub fn bits(x: f64) -> u64
     ensures { λ r. ⌜ r ≡ toBits binary64 x ⌝ }
