@@ -2,11 +2,7 @@
 use mathlib.Core.Path.{_≡_, refl, sym, ap, subst, _∙_}
 use mathlib.Core.Bool.{Bool, true, false, cond}
 use mathlib.Core.List.{List}
-use Prim.Native.Nat.{ℕ, zero, suc, _+_, _*_, _≤_, _<_}
-use native.Mathlib.Nat.{mul-suc}
-use native.Mathlib.Numerals.{add-one}
-use native.Mathlib.Omega.{arith}
-use lib.ListN.{length}
+use Prim.Native.Nat.{ℕ, zero, suc, _+_, _*_, _<_}
 use Rattle.refusal.specs.declared.Cell.{Cell}
 use Rattle.refusal.specs.declared.Refusal.the-variants.{BadLayer}
 use Rattle.words.specs.Word.{Bytes, big}
@@ -18,7 +14,7 @@ use Rattle.cell.specs.Cell.{sameCell}
 use Rattle.cell.specs.Bytes.{fromBytesOf}
 use Rattle.layer.specs.Layer.{Held, nothing, held, rowAt, heldOf, rowsFrom, rowsOf, isSound}
 use Rattle.layer.specs.Places.{Stands}
-use Rattle.layer.specs.Laws.{row-kept, sound-room, row-within, find-is-held, find-is-nothing}
+use Rattle.layer.specs.Laws.{row-kept, find-is-held, find-is-nothing}
 use Rattle.layer.specs.declared.Place.{Place}
 use Rattle.layer.specs.declared.Place.the-variants.{At, Before}
 use Rattle.layer.specs.declared.HeldAnswer.{HeldAnswer}
@@ -42,16 +38,6 @@ module _ (w : ℕ) (l : List ℕ) (n : ℕ) where
 
   pub not-found : (c : Cell) (i : ℕ) {p : Place} → isSound w l n ≡ true → Stands w l n c p → p ≡ Before i → Nothing ≡ heldBy (Is c) w l n
   not-found c i e s q = on-sound c _ e (find-is-nothing w l c n i (subst (Stands w l n c) q s))
-
-  -- a record that was found lies within the table
-  at-within : (c : Cell) (i : ℕ) → isSound w l n ≡ true → Stands w l n c (At i) → w * (i + 1) ≤ length l
-  unfolding Stands
-  at-within c i e s =
-      let q : w * (i + 1) ≡ w * suc i = ap (λ (j : ℕ). w * j) (add-one i) in
-      omega (arith, q, mul-suc w i, row-within w l n i (sound-room w l n e) (s .within))
-
-  pub found-within : (c : Cell) (i : ℕ) {p : Place} → isSound w l n ≡ true → Stands w l n c p → p ≡ At i → w * (i + 1) ≤ length l
-  found-within c i e s q = at-within c i e (subst (Stands w l n c) q s)
 
 -- ---- flags: what a record of 20 bytes keeps is below 2^32
 
