@@ -171,7 +171,7 @@ bits-key k h =
     (λ low. rw (le-ltb (18446744073709551615 - k) 9223372036854775808 (omega arith)) (omega arith))
     (λ high. rw (lt-ltb (k - 9223372036854775808) 9223372036854775808 (omega arith)) (omega arith))
 
--- a key has 64 bits too
-pub key-lt : (b : ℕ) → b < 2 ^ 64 → keyOf b < 2 ^ 64
+-- a key has 64 bits
+pub key-lt : (b : ℕ) → keyOf b < 2 ^ 64
 unfolding keyOf
-key-lt b h = by-less (λ (k : ℕ). k < 2 ^ 64) b 9223372036854775808 (b + 9223372036854775808) (18446744073709551615 - b) (λ low. omega arith) (λ high. omega arith)
+key-lt b = by-less (λ (k : ℕ). k < 2 ^ 64) b 9223372036854775808 (b + 9223372036854775808) (18446744073709551615 - b) (λ low. omega arith) (λ high. omega arith)
