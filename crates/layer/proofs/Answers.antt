@@ -12,7 +12,7 @@ use Rattle.cell.specs.declared.CellAnswer.the-variants as cell
 use Rattle.cell.specs.Bytes.{fromBytesOf}
 use Rattle.layer.specs.Layer.{Held, nothing, held, rowAt, heldOf, rowsOf, isSound}
 use Rattle.layer.specs.Places.{Stands}
-use Rattle.layer.specs.Laws.{find-is-held, find-is-nothing}
+use Rattle.layer.specs.Laws.{found-held, missing-held}
 use Rattle.layer.specs.Bytes.{Small, rows-storable, held-small}
 use Rattle.layer.specs.declared.Place.{Place}
 use Rattle.layer.specs.declared.Place.the-variants.{At, Before}
@@ -33,10 +33,10 @@ module _ (w : ℕ) (l : List ℕ) (n : ℕ) where
   on-sound c h e q = ap ofHeld (sym q) ∙ sym (ap (λ (t : Bool). cond t (ofHeld (heldOf c (rowsOf w l n))) (Refused BadLayer)) e)
 
   pub found : (c : Cell) (i : ℕ) {k : ℕ} {p : Place} → isSound w l n ≡ true → Stands w l n c p → p ≡ At i → k ≡ rowAt w l i .kept → Kept k ≡ heldBy (Is c) w l n
-  found c i e s q r = ap Kept r ∙ on-sound c _ e (find-is-held w l c n i e (subst (Stands w l n c) q s))
+  found c i {k} e s q r = on-sound c (held k) e (found-held w l c n i e s q r)
 
   pub not-found : (c : Cell) (i : ℕ) {p : Place} → isSound w l n ≡ true → Stands w l n c p → p ≡ Before i → Nothing ≡ heldBy (Is c) w l n
-  not-found c i e s q = on-sound c _ e (find-is-nothing w l c n i (subst (Stands w l n c) q s))
+  not-found c i e s q = on-sound c nothing e (missing-held w l c n i s q)
 
 -- ---- flags: what a record of 20 bytes keeps is below 2^32
 

@@ -143,3 +143,10 @@ module _ (w : ℕ) (l : List ℕ) (c : Cell) where
 
   pub found-within : (n i : ℕ) {p : Place} → isSound w l n ≡ true → Stands w l n c p → p ≡ At i → w * (i + 1) ≤ length l
   found-within n i e s q = at-within n i e (subst (Stands w l n c) q s)
+
+  -- what the layer holds of the cell, by the search's answer and what was read there
+  pub found-held : (n i : ℕ) {p : Place} {k : ℕ} → isSound w l n ≡ true → Stands w l n c p → p ≡ At i → k ≡ rowAt w l i .kept → heldOf c (rowsOf w l n) ≡ held k
+  found-held n i e s q r = find-is-held n i e (subst (Stands w l n c) q s) ∙ ap held (sym r)
+
+  pub missing-held : (n i : ℕ) {p : Place} → Stands w l n c p → p ≡ Before i → heldOf c (rowsOf w l n) ≡ nothing
+  missing-held n i s q = find-is-nothing n i (subst (Stands w l n c) q s)
