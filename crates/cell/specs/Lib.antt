@@ -6,3 +6,4 @@ pub mod Bytes
 pub mod Stored
 pub mod BytesLaws
 pub mod Lists
+pub mod ListLaws

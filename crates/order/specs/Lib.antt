@@ -2,3 +2,4 @@ pub mod Sorted
 pub mod SortedLaws
 pub mod Groups
 pub mod GroupLaws
+pub mod Listed
