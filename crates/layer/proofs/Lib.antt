@@ -1,4 +1,4 @@
-mod Turns
+mod Copies
 mod Halves
 mod Answers
 mod Moved

@@ -1,18 +1,25 @@
--- The bytes from `from` up to `i` are zeros, and the others are those of the table that was lent.
-use Prim.Native.Nat.{_-_}
+-- The first i of the zeros stand in the table.
+use Prim.Native.Nat.{ℕ, _-_}
 use native.Mathlib.Omega.{arith}
-use Rattle.layer.proofs.Turns.{Zeroed, zeroed-none, zeroed-more, zeroed-all}
+use lib.ListN.{replicate, length-replicate, getD-replicate}
+use Rattle.layer.proofs.Copies.{Pasted, pasted-none, pasted-more, zeroed-all}
 use Rattle.layer.proofs.records.zero.Statement.{statement}
 use Rattle.layer.proofs.records.zero.Tie as tie
 
 abbrev Inv-loop : tie.InvT-loop
-Inv-loop table₀ from to i₀ table i = Zeroed table₀ from to i table
+Inv-loop table₀ from to size i₀ table i = Pasted table₀ from (replicate size 0) size i table
 
 abbrev μ-loop : tie.MeasureT-loop
-μ-loop table₀ from to i₀ table i = to - i
+μ-loop table₀ from to size i₀ table i = size - i
+
+sub-size : tie.Need-sub-size Inv-loop μ-loop
+sub-size c = omega arith
 
 loop-holds : tie.Need-loop-holds Inv-loop μ-loop
-loop-holds c = zeroed-none (c .args .table .now) (c .args .from) (c .args .to) (c .pre .0)
+loop-holds c = pasted-none _ _ _ _
+
+add-table : tie.Need-add-table Inv-loop μ-loop
+add-table c = omega arith
 
 slice-write-table : tie.Need-slice-write-table Inv-loop μ-loop
 slice-write-table c = omega arith
@@ -25,18 +32,17 @@ loop-less c = omega arith
 
 loop-again : tie.Need-loop-again Inv-loop μ-loop
 loop-again c =
-    let start = c .before .before in
+    let size = c .before .before .args .to - c .before .before .args .from in
     let here = c .before .loop in
-    zeroed-more (start .args .table .now) (start .args .from) (start .args .to) (here .i) (here .table) (start .pre .1) (c .loop-test .taken) (here .inv)
+    pasted-more _ _ _ _ (here .i) 0 (here .table) (omega arith) (omega (arith, length-replicate {A = ℕ} size 0)) (c .loop-test .taken) (getD-replicate size (here .i) 0 0 (c .loop-test .taken)) (here .inv)
 
 same-length : tie.Need-same-length Inv-loop μ-loop
 same-length c = c .before .loop .inv .long
 
 returns : tie.Need-returns Inv-loop μ-loop
 returns c =
-    let start = c .before .before in
-    let here = c .before .loop in
-    zeroed-all (start .args .table .now) (start .args .from) (start .args .to) (here .i) (here .table) (c .loop-test .left) (here .inv)
+    let args = c .before .before .args in
+    zeroed-all (args .table .now) (args .from) (args .to) (c .before .loop .i) (c .before .loop .table) (c .before .before .pre .0) (c .loop-test .left) (c .before .loop .inv)
 
 pub zero-spec : {M : Type 1} → statement M
-zero-spec = tie.close (tie.spec Inv-loop μ-loop loop-holds slice-write-table add-i loop-less loop-again same-length returns)
+zero-spec = tie.close (tie.spec Inv-loop μ-loop sub-size loop-holds add-table slice-write-table add-i loop-less loop-again same-length returns)
