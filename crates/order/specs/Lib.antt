@@ -1,4 +1,5 @@
 pub mod Sorted
 pub mod SortedLaws
+pub mod Merge
 pub mod Groups
 pub mod GroupLaws
