@@ -3,3 +3,4 @@ pub mod SortedLaws
 pub mod Merge
 pub mod Groups
 pub mod GroupLaws
+pub mod Listed
