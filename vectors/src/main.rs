@@ -47,6 +47,7 @@
 
 use compare::calls::{Call, Parameter, Request};
 use compare::expected::{expected, quiet, Answer};
+use compare::random::Random;
 
 const RECORD: usize = 64;
 const MIN: i64 = i32::MIN as i64;
@@ -366,25 +367,16 @@ fn snaps(list: &mut List) {
     }
 }
 
-/// Numbers that look random and are the same each time (splitmix64).
-fn next(state: &mut u64) -> u64 {
-    *state = state.wrapping_add(0x9E37_79B9_7F4A_7C15);
-    let mut word = *state;
-    word = (word ^ (word >> 30)).wrapping_mul(0xBF58_476D_1CE4_E5B9);
-    word = (word ^ (word >> 27)).wrapping_mul(0x94D0_49BB_1331_11EB);
-    word ^ (word >> 31)
-}
-
 /// Points about as far from (0, 0, 0) as from (1, 1, 1), where another way to sum the squares
 /// would choose the other point: four for the sum from the other end, four for fused products.
 fn rounded_ties() -> Vec<[f64; 3]> {
     let plain = |[x, y, z]: [f64; 3]| x * x + y * y + z * z;
     let other_end = |[x, y, z]: [f64; 3]| z * z + y * y + x * x;
     let fused = |[x, y, z]: [f64; 3]| z.mul_add(z, y.mul_add(y, x * x));
-    let mut state = 1;
+    let mut random = Random::new(1);
     let mut found = [Vec::new(), Vec::new()];
     while found.iter().any(|points| points.len() < 4) {
-        let [x, y] = [(); 2].map(|()| (next(&mut state) >> 11) as f64 / (1u64 << 53) as f64);
+        let [x, y] = [(); 2].map(|()| (random.next() >> 11) as f64 / (1u64 << 53) as f64);
         let even = [x, y, 1.5 - x - y];
         let odd = even.map(|number| 1.0 - number);
         let chosen = plain(even) <= plain(odd);
@@ -406,10 +398,10 @@ fn rounded_ties() -> Vec<[f64; 3]> {
 
 /// Pairs whose distance would be another if the squares were summed from the other end.
 fn rounded_pairs() -> Vec<[Point; 2]> {
-    let mut state = 2;
+    let mut random = Random::new(2);
     let mut found = Vec::new();
     while found.len() < 6 {
-        let point = [(); 3].map(|()| ((next(&mut state) as i32) >> 1 & !1) as i64);
+        let point = [(); 3].map(|()| ((random.next() as i32) >> 1 & !1) as i64);
         let [x, y, z] = point.map(|number| number as f64);
         let sums = [x * x + y * y + z * z, z * z + y * y + x * x];
         if sums[0].sqrt() != sums[1].sqrt() {
