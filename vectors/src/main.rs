@@ -1,9 +1,9 @@
-//! Writes a fixed list of the oracle's answers, which the crate `replay` replays with no Rust at hand.
-//! No library is involved, and the file is the same each time.
+//! Writes two fixed lists of the oracle's answers, which the crate `replay` replays with no Rust at hand.
+//! No library is involved, and the files are the same each time.
 //!
-//!     vectors [FILE]        crates/replay/data/answers.bin unless named
+//!     vectors [FOLDER]      answers.bin and layers.bin, in crates/replay/data unless named
 //!
-//! The file is records of 64 bytes, at most 1,000, all numbers big-endian:
+//! `layers.bin` is described in layers.rs. `answers.bin` is records of 64 bytes, at most 1,000, all numbers big-endian:
 //!
 //! | bytes | what |
 //! |---|---|
@@ -44,6 +44,8 @@
 //! | 22 | cell_between(first, second) | nothing |
 //! | 23 | cell_distance(first, second) | bits |
 //! | 24 | cell_manhattan_distance(first, second) | i32 |
+
+mod layers;
 
 use compare::calls::{Call, Parameter, Request};
 use compare::expected::{expected, quiet, Answer};
@@ -569,10 +571,22 @@ fn cells(list: &mut List) {
     }
 }
 
+/// Writes one list, of records that are at most so many.
+fn write(folder: &str, name: &str, bytes: &[u8], most: usize) {
+    let file = format!("{folder}/{name}");
+    let records = bytes.len() / RECORD;
+    assert!(records <= most, "{records} records do not fit the format");
+    if let Err(error) = std::fs::write(&file, bytes) {
+        eprintln!("vectors: {file}: {error}");
+        std::process::exit(2);
+    }
+    println!("{file}: {records} records");
+}
+
 fn main() {
-    let file = std::env::args()
+    let folder = std::env::args()
         .nth(1)
-        .unwrap_or_else(|| "crates/replay/data/answers.bin".to_string());
+        .unwrap_or_else(|| "crates/replay/data".to_string());
     quiet();
     let mut list = List { bytes: Vec::new() };
     roots(&mut list);
@@ -580,11 +594,6 @@ fn main() {
     snaps(&mut list);
     distances(&mut list);
     cells(&mut list);
-    let records = list.bytes.len() / RECORD;
-    assert!(records <= 1000, "{records} records do not fit the format");
-    if let Err(error) = std::fs::write(&file, &list.bytes) {
-        eprintln!("vectors: {file}: {error}");
-        std::process::exit(2);
-    }
-    println!("{file}: {records} records");
+    write(&folder, "answers.bin", &list.bytes, 1000);
+    write(&folder, "layers.bin", &layers::records(), 400);
 }
