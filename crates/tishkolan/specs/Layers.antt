@@ -1,7 +1,6 @@
 -- The calls of the C face on layers: each is the definition of `layer`, told to C. A count is told as it stands after the call: where the call refuses, it is the one that was given.
 -- Definitions only. Assumes nothing.
-use mathlib.Core.List.{List}
-use Prim.Native.Nat.{ℕ, _-_}
+use Prim.Native.Nat.{ℕ}
 use lib.IntN.{pos}
 use Rattle.refusal.specs.declared.Refusal.{Refusal}
 use Rattle.layer.specs.declared.FlagsAnswer.{FlagsAnswer}
@@ -14,15 +13,10 @@ use Rattle.layer.specs.declared.CountAnswer.{CountAnswer}
 use Rattle.layer.specs.declared.CountAnswer.the-variants as count
 use Rattle.layer.specs.declared.EmptyAnswer.{EmptyAnswer}
 use Rattle.layer.specs.declared.EmptyAnswer.the-variants as empty
-use Rattle.layer.specs.Changes.{Changed, changed}
 use Rattle.tishkolan.specs.declared.told.NumberTold.{NumberTold}
 use Rattle.tishkolan.specs.declared.told.CountTold.{CountTold}
 use Rattle.tishkolan.specs.declared.told.KeptTold.{KeptTold}
 use Rattle.tishkolan.specs.Told.{answered, toldOf, numberTold, noNumber}
-
--- the same bytes, and what C is told
-abbrev pub retold : {A B : Type 0} → (A → B) → Changed A → Changed B
-retold f c = changed (f (c .said)) (c .bytes)
 
 -- n is the count that was given
 abbrev pub ofCount : ℕ → CountAnswer → CountTold
