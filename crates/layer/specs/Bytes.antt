@@ -88,6 +88,10 @@ rows-part w l i (suc n) h f b =
     ∙ sym (take-add w (w * n) (drop (w * i) l))
     ∙ ap (λ (k : ℕ). take k (drop (w * i) l)) size
 
+pub bytes-of-rows : (w : ℕ) (l : List ℕ) (n : ℕ) → 16 ≤ w → w * n ≤ length l → Bytes l → flatMap (rowBytes w) (rowsOf w l n) ≡ take (w * n) l
+unfolding rowsOf
+bytes-of-rows w l n h f b = rows-part w l 0 n h (omega (arith, mul-zero w)) b ∙ ap (λ (k : ℕ). take (w * n) (drop k l)) (mul-zero w)
+
 -- ---- the first row and the later ones
 
 -- the row at the next index is that of the table without its first record
@@ -147,7 +151,7 @@ rows-laid w (r ∷ rs) l h (one-more s a) =
 pub laid-rows : (w : ℕ) (l : List ℕ) (n : ℕ) → 16 ≤ w → w * n ≤ length l → Bytes l → laid w (rowsOf w l n) l ≡ l
 unfolding rowsOf laid
 laid-rows w l n h f b =
-    ap₂ _++_ (rows-part w l 0 n h (omega (arith, mul-zero w)) b ∙ ap (λ (k : ℕ). take (w * n) (drop k l)) (mul-zero w)) (ap (λ (k : ℕ). drop (w * k) l) (length-rowsFrom w l 0 n))
+    ap₂ _++_ (bytes-of-rows w l n h f b) (ap (λ (k : ℕ). drop (w * k) l) (length-rowsFrom w l 0 n))
     ∙ take-append-drop (w * n) l
 
 -- ---- rows that can be stored
