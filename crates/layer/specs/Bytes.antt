@@ -156,7 +156,8 @@ laid-rows w l n h f b =
 
 -- ---- rows that can be stored
 
-row-storable : (w : ℕ) (l : List ℕ) (i : ℕ) → Bytes l → Storable w (rowAt w l i)
+-- one that was read from bytes can
+pub row-storable : (w : ℕ) (l : List ℕ) (i : ℕ) → Bytes l → Storable w (rowAt w l i)
 unfolding rowAt cellAt
 row-storable w l i b =
     record {
@@ -164,7 +165,7 @@ row-storable w l i b =
       small = word-lt big (w - 16) l (w * i + 16) b;
     }
 
--- those that were read from bytes can
+-- and so can those that were
 pub rows-storable : (w : ℕ) (l : List ℕ) (i n : ℕ) → Bytes l → AllStorable w (rowsFrom w l i n)
 unfolding rowsFrom
 rows-storable w l i zero b = no-rows

@@ -3,3 +3,4 @@ mod Passing
 mod Ranking
 mod RunByRun
 mod Storing
+mod OneAnswer
