@@ -1,2 +1,3 @@
 pub mod Sorted
 pub mod Groups
+pub mod GroupLaws
