@@ -1,3 +1,4 @@
 pub mod Front
 pub mod Whole
 pub mod Keeping
+pub mod Numbered
