@@ -2,3 +2,4 @@ pub mod Front
 pub mod Whole
 pub mod Keeping
 pub mod Numbered
+pub mod Replaced
