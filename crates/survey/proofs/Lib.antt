@@ -3,3 +3,5 @@ pub mod Whole
 pub mod Keeping
 pub mod Numbered
 pub mod Replaced
+pub mod OneAnswer
+pub mod Points
