@@ -35,7 +35,7 @@ enum {
     TISHKOLAN_NO_ROOM = 10,              /* carries the room: 1 known, 2 waiting, 3 output, 4 layer */
     TISHKOLAN_BAD_WORKSPACE = 11,
     TISHKOLAN_BAD_FILE = 12,             /* carries the byte place */
-    TISHKOLAN_BAD_LIST = 13,             /* a single cell of another length than 16 */
+    TISHKOLAN_BAD_LIST = 13,             /* a list whose length is no multiple of 16, or one cell of another length than 16 */
     TISHKOLAN_BAD_LAYER = 14,
     TISHKOLAN_BAD_RULE = 15
 };
@@ -206,6 +206,136 @@ tishkolan_bits_answer tishkolan_cell_distance(const uint8_t *first, size_t first
                                               const uint8_t *second, size_t second_length);
 tishkolan_number_answer tishkolan_cell_manhattan_distance(const uint8_t *first, size_t first_length,
                                                           const uint8_t *second, size_t second_length);
+
+/* ---- layers: a table of records that you lend, and how many of them are in use.
+ * A flag record is a cell and 32 bits, a value record a cell and the 64 bits of a double,
+ * big-endian, strictly ascending by cell. A table holds at most 1,024 records, fewer where
+ * it is shorter; bytes behind those in use may hold anything.
+ * A call that takes a cell is BAD_LIST where that has not 16 bytes; then every call but
+ * clear is BAD_LAYER where count or order are not those of a layer. */
+
+enum { TISHKOLAN_FLAG_RECORD = 20, TISHKOLAN_VALUE_RECORD = 24, TISHKOLAN_MOST_CELLS = 1024 };
+
+/* The flags that have a name. A cell is blocked by bit 0 and by nothing else. */
+enum {
+    TISHKOLAN_NONE = 0,
+    TISHKOLAN_BLOCKED = 1,
+    TISHKOLAN_NO_FLY = 2,
+    TISHKOLAN_WATER = 4,
+    TISHKOLAN_BOUNDARY = 8
+};
+
+/* The layer's count after the call: where it refuses, the count that was given. */
+typedef struct {
+    tishkolan_refusal refusal;
+    uint64_t count;
+} tishkolan_count_answer;
+
+/* What is kept of a cell, flags or the bits of a value, and the layer's count after the call. */
+typedef struct {
+    tishkolan_refusal refusal;
+    uint32_t found; /* 1, or 0 where nothing is kept of the cell */
+    uint64_t kept;
+    uint64_t count;
+} tishkolan_kept_answer;
+
+bool tishkolan_has_flag(uint32_t flags, uint32_t flag);
+uint32_t tishkolan_set_flag(uint32_t flags, uint32_t flag);
+uint32_t tishkolan_clear_flag(uint32_t flags, uint32_t flag);
+bool tishkolan_is_blocked(uint32_t flags);
+
+/* Keeps flags of a cell, in place of those kept before. NO_ROOM 4 for a new cell in a full table. */
+tishkolan_count_answer tishkolan_flags_set(uint8_t *table, size_t table_length, size_t count,
+                                           const uint8_t *cell, size_t cell_length, uint32_t flags);
+
+tishkolan_kept_answer tishkolan_flags_get(const uint8_t *table, size_t table_length, size_t count,
+                                          const uint8_t *cell, size_t cell_length);
+
+/* Forgets a cell, says what was kept of it, and zeroes the record that is free now. */
+tishkolan_kept_answer tishkolan_flags_remove(uint8_t *table, size_t table_length, size_t count,
+                                             const uint8_t *cell, size_t cell_length);
+
+/* 1 or 0. */
+tishkolan_number_answer tishkolan_flags_contains(const uint8_t *table, size_t table_length, size_t count,
+                                                 const uint8_t *cell, size_t cell_length);
+
+/* The count, once the table was tested. */
+tishkolan_count_answer tishkolan_flags_count(const uint8_t *table, size_t table_length, size_t count);
+
+/* 1 or 0. */
+tishkolan_number_answer tishkolan_flags_is_empty(const uint8_t *table, size_t table_length, size_t count);
+
+/* Zeroes all records that the table holds; the count is 0 from now on. Tests nothing. */
+void tishkolan_flags_clear(uint8_t *table, size_t table_length);
+
+/* The records in use, ascending, as bytes. NO_ROOM 3. */
+tishkolan_count_answer tishkolan_flags_list(const uint8_t *table, size_t table_length, size_t count,
+                                            uint8_t *out, size_t out_length);
+
+/* The same of a value layer. */
+tishkolan_count_answer tishkolan_values_set(uint8_t *table, size_t table_length, size_t count,
+                                            const uint8_t *cell, size_t cell_length, uint64_t bits);
+tishkolan_kept_answer tishkolan_values_get(const uint8_t *table, size_t table_length, size_t count,
+                                           const uint8_t *cell, size_t cell_length);
+tishkolan_kept_answer tishkolan_values_remove(uint8_t *table, size_t table_length, size_t count,
+                                              const uint8_t *cell, size_t cell_length);
+tishkolan_number_answer tishkolan_values_contains(const uint8_t *table, size_t table_length, size_t count,
+                                                  const uint8_t *cell, size_t cell_length);
+tishkolan_count_answer tishkolan_values_count(const uint8_t *table, size_t table_length, size_t count);
+tishkolan_number_answer tishkolan_values_is_empty(const uint8_t *table, size_t table_length, size_t count);
+void tishkolan_values_clear(uint8_t *table, size_t table_length);
+tishkolan_count_answer tishkolan_values_list(const uint8_t *table, size_t table_length, size_t count,
+                                             uint8_t *out, size_t out_length);
+
+/* ---- aggregates of a value layer */
+
+enum {
+    TISHKOLAN_COUNT = 0,
+    TISHKOLAN_SUM = 1,
+    TISHKOLAN_MEAN = 2,
+    TISHKOLAN_MIN = 3,
+    TISHKOLAN_MAX = 4,
+    TISHKOLAN_MEDIAN = 5
+};
+
+/* The aggregate of what is kept of the cells of a list, repeats counted, in list order.
+ * BAD_LIST; BAD_LAYER; OUT_OF_RANGE where how is none of the six; NO_VALUES; HAS_NAN, but
+ * not of COUNT. A NaN that the operation made is 0x7FF8000000000000. */
+tishkolan_bits_answer tishkolan_values_aggregate(const uint8_t *table, size_t table_length, size_t count,
+                                                 const uint8_t *cells, size_t cells_length, uint32_t how);
+
+/* Rolls a layer up to the parents of its cells, into the table coarse, whose contents it
+ * replaces; cells of resolution 0 or of mixed parity are left out. BAD_LAYER of the fine
+ * layer; OUT_OF_RANGE; HAS_NAN; NO_ROOM 4. The answer's count is that of coarse. */
+tishkolan_count_answer tishkolan_values_rollup(const uint8_t *fine, size_t fine_length, size_t fine_count,
+                                               uint32_t how,
+                                               uint8_t *coarse, size_t coarse_length, size_t coarse_count);
+
+/* ---- survey files */
+
+/* The counts of both layers after the call: where it refuses, those that were given. */
+typedef struct {
+    tishkolan_refusal refusal;
+    uint64_t place; /* of BAD_FILE */
+    uint64_t flags;
+    uint64_t values;
+} tishkolan_load_answer;
+
+typedef struct {
+    tishkolan_refusal refusal;
+    uint64_t length;
+} tishkolan_length_answer;
+
+/* Replaces both layers by a file's, or neither. A later record of a cell replaces an earlier
+ * one. BAD_FILE with the byte place; NO_ROOM 4. The tables are not tested. */
+tishkolan_load_answer tishkolan_survey_load(const uint8_t *file, size_t file_length,
+                                            uint8_t *flags, size_t flags_length, size_t flags_count,
+                                            uint8_t *values, size_t values_length, size_t values_count);
+
+/* Writes both layers as a file, ascending. BAD_LAYER; NO_ROOM 3. */
+tishkolan_length_answer tishkolan_survey_write(const uint8_t *flags, size_t flags_length, size_t flags_count,
+                                               const uint8_t *values, size_t values_length, size_t values_count,
+                                               uint8_t *out, size_t out_length);
 
 #ifdef __cplusplus
 }

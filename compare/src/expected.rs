@@ -14,9 +14,13 @@ pub const INVALID_PARITY: u32 = 1;
 pub const NO_PARENT: u32 = 2;
 pub const NO_CHILDREN: u32 = 3;
 pub const OUT_OF_RANGE: u32 = 4;
+pub const NO_VALUES: u32 = 5;
+pub const HAS_NAN: u32 = 6;
 pub const COORD_OVERFLOW: u32 = 9;
 pub const NO_ROOM: u32 = 10;
+pub const BAD_FILE: u32 = 12;
 pub const BAD_LIST: u32 = 13;
+pub const BAD_LAYER: u32 = 14;
 
 /// A refusal with everything that it carries; all zero where the call answers.
 #[derive(Debug, Clone, Copy, PartialEq, Eq, Default)]
@@ -29,10 +33,29 @@ pub struct Refusal {
 }
 
 impl Refusal {
-    fn plain(number: u32) -> Refusal {
+    pub fn plain(number: u32) -> Refusal {
         Refusal {
             number,
             ..Refusal::default()
+        }
+    }
+
+    pub fn no_room(room: u32) -> Refusal {
+        Refusal {
+            room,
+            ..Refusal::plain(NO_ROOM)
+        }
+    }
+
+    /// The 20 bytes of a refusal, as C has them.
+    pub fn read(bytes: &[u8]) -> Refusal {
+        let word = |at: usize| u32::from_le_bytes(bytes[at..at + 4].try_into().unwrap());
+        Refusal {
+            number: word(0),
+            room: word(4),
+            x: word(8) as i32,
+            y: word(12) as i32,
+            z: word(16) as i32,
         }
     }
 
@@ -303,10 +326,7 @@ pub fn expected(request: &Request) -> Answer {
         .is_ok_and(|answer| answer.front.len() > usize::from(request.room) * size)
     {
         // The output room, last of all.
-        said = Err(Refusal {
-            room: 3,
-            ..Refusal::plain(NO_ROOM)
-        });
+        said = Err(Refusal::no_room(3));
     }
     said.unwrap_or_else(|refusal| Answer {
         refusal,

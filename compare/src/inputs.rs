@@ -1,9 +1,10 @@
 //! The inputs: every limit that the specification names with one off on each side, all small
 //! inputs, and random ones.
 
-use compare::calls::{Call, Request};
+use crate::calls::{Call, Request};
+use crate::random::Random;
 
-type Sink<'a> = &'a mut dyn FnMut(Request);
+type Sink<'a> = crate::side_by_side::Sink<'a, Request>;
 
 const MIN: i64 = i32::MIN as i64;
 const MAX: i64 = i32::MAX as i64;
@@ -32,10 +33,10 @@ const ON_TWO_CELLS: [Call; 4] = [
     Call::CellManhattanDistance,
 ];
 
-type Point = [i64; 3];
+pub(crate) type Point = [i64; 3];
 
 /// The 16 bytes of a cell; `rest` is exponent, flags and reserved, bits 16 to 31.
-fn cell(frame: u8, resolution: u8, point: Point, rest: u16) -> [u8; 16] {
+pub(crate) fn cell(frame: u8, resolution: u8, point: Point, rest: u16) -> [u8; 16] {
     let mut bytes = [0; 16];
     bytes[0..4].copy_from_slice(&(point[2] as i32).to_be_bytes());
     bytes[4..8].copy_from_slice(&(point[1] as i32).to_be_bytes());
@@ -98,7 +99,7 @@ fn root(bits: u64, sink: Sink) {
 }
 
 /// Doubles that are no numbers, or hardly.
-fn odd_doubles() -> Vec<f64> {
+pub(crate) fn odd_doubles() -> Vec<f64> {
     let mut bits = vec![
         0x7FF0_0000_0000_0000, // infinity
         0x7FF0_0000_0000_0001, // signalling NaN, least payload
@@ -570,37 +571,7 @@ pub fn small(sink: Sink) {
 
 // ---- random inputs
 
-/// Numbers from a seed (splitmix64).
-pub struct Random {
-    state: u64,
-}
-
 impl Random {
-    pub fn new(seed: u64) -> Random {
-        Random { state: seed }
-    }
-
-    fn next(&mut self) -> u64 {
-        self.state = self.state.wrapping_add(0x9E37_79B9_7F4A_7C15);
-        let mut word = self.state;
-        word = (word ^ (word >> 30)).wrapping_mul(0xBF58_476D_1CE4_E5B9);
-        word = (word ^ (word >> 27)).wrapping_mul(0x94D0_49BB_1331_11EB);
-        word ^ (word >> 31)
-    }
-
-    /// From 0 up to below `end`.
-    fn below(&mut self, end: u64) -> u64 {
-        ((u128::from(self.next()) * u128::from(end)) >> 64) as u64
-    }
-
-    fn between(&mut self, low: i64, high: i64) -> i64 {
-        low + self.below((high - low) as u64 + 1) as i64
-    }
-
-    fn one_of<T: Copy>(&mut self, list: &[T]) -> T {
-        list[self.below(list.len() as u64) as usize]
-    }
-
     fn coordinate(&mut self) -> i64 {
         let limit = [MIN, MAX, -1073741824, 1073741823, 0];
         let number = match self.below(5) {

@@ -1,4 +1,11 @@
-//! The calls of include/tishkolan.h as data, and what the oracle answers to each.
+//! The calls of include/tishkolan.h as data, what the oracle answers to each, and what holds the
+//! library to that.
 
 pub mod calls;
 pub mod expected;
+pub mod inputs;
+pub mod layers;
+mod library;
+mod pipe;
+pub mod random;
+pub mod side_by_side;

@@ -1,108 +1,127 @@
-//! The library at work: the program of answer.c, asked through pipes.
+//! A request of calls.rs on its way to the program of answer.c, and what came back held to what
+//! the oracle says.
 
-use compare::calls::Request;
-use compare::expected::Refusal;
-use std::io::{self, Read, Write};
-use std::process::{Child, ChildStdin, ChildStdout, Command, Stdio};
+use crate::calls::{hex, Call, Request};
+use crate::expected::{by_the_ranges, expected, Answer, Refusal, BAD_LIST, NO_ROOM};
+use crate::side_by_side::Asked;
 
 /// All that the library said to one request.
-#[derive(Debug, Clone, PartialEq, Eq)]
-pub struct Said {
-    pub refusal: Refusal,
-    pub values: [i64; 8],
+struct Said {
+    refusal: Refusal,
+    values: [i64; 8],
     /// Whether a lent cell was written to.
-    pub changed: bool,
+    changed: bool,
     /// The buffer after the call, with the 16 bytes on either side of it.
-    pub after: Vec<u8>,
+    after: Vec<u8>,
 }
 
-pub struct Library {
-    child: Child,
-    to: ChildStdin,
-    from: ChildStdout,
+/// Takes what was said off the front.
+fn take(request: &Request, from: &mut &[u8]) -> Said {
+    let (head, tail) = from.split_at(88);
+    let word = |at: usize| u32::from_le_bytes(head[at..at + 4].try_into().unwrap());
+    let long = |at: usize| i64::from_le_bytes(head[at..at + 8].try_into().unwrap());
+    let (after, rest) = tail.split_at(request.before().len());
+    *from = rest;
+    Said {
+        refusal: Refusal::read(head),
+        changed: word(20) != 0,
+        values: [0, 1, 2, 3, 4, 5, 6, 7].map(|place| long(24 + 8 * place)),
+        after: after.to_vec(),
+    }
 }
 
-impl Library {
-    /// Starts the program: the words of a command.
-    pub fn start(command: &[String]) -> io::Result<Library> {
-        let mut child = Command::new(&command[0])
-            .args(&command[1..])
-            .stdin(Stdio::piped())
-            .stdout(Stdio::piped())
-            .spawn()?;
-        Ok(Library {
-            to: child.stdin.take().unwrap(),
-            from: child.stdout.take().unwrap(),
-            child,
-        })
+impl Asked for Request {
+    type Wanted = Answer;
+
+    fn calls() -> Vec<(u8, &'static str)> {
+        Call::ALL.map(|call| (call.number(), call.name())).to_vec()
     }
 
-    /// Sends a batch. The other side reads all of it before it writes.
-    pub fn ask(&mut self, requests: &[Request]) -> io::Result<()> {
-        let mut bytes = vec![0; 4];
-        for request in requests {
-            let (first, second) = (request.first.slice(), request.second.slice());
-            bytes.extend([
-                request.call.number(),
-                first.len() as u8,
-                second.len() as u8,
-                request.fill,
-            ]);
-            bytes.extend(request.room.to_le_bytes());
-            bytes.extend([request.null.into(), 0]);
-            bytes.extend(
-                request
-                    .numbers
-                    .iter()
-                    .flat_map(|number| number.to_le_bytes()),
-            );
-            bytes.extend(first);
-            bytes.extend(second);
+    fn number(&self) -> u8 {
+        self.call.number()
+    }
+
+    fn send(&self, batch: &mut Vec<u8>) {
+        let (first, second) = (self.first.slice(), self.second.slice());
+        batch.extend([
+            self.call.number(),
+            first.len() as u8,
+            second.len() as u8,
+            self.fill,
+        ]);
+        batch.extend(self.room.to_le_bytes());
+        batch.extend([self.null.into(), 0]);
+        batch.extend(self.numbers.iter().flat_map(|number| number.to_le_bytes()));
+        batch.extend(first);
+        batch.extend(second);
+    }
+
+    fn wanted(&self) -> Answer {
+        expected(self)
+    }
+
+    fn refused(wanted: &Answer) -> u32 {
+        wanted.refusal.number
+    }
+
+    fn judge(&self, wanted: &Answer, said: &mut &[u8]) -> Vec<String> {
+        let said = take(self, said);
+        let mut after = self.before();
+        after
+            .iter_mut()
+            .skip(16)
+            .zip(&wanted.front)
+            .for_each(|(byte, front)| *byte = *front);
+
+        let mut wrong = Vec::new();
+        if said.refusal != wanted.refusal {
+            wrong.push(format!(
+                "said {:?}, wanted {:?}",
+                said.refusal, wanted.refusal
+            ));
         }
-        let length = bytes.len() as u32 - 4;
-        bytes[..4].copy_from_slice(&length.to_le_bytes());
-        self.to.write_all(&bytes)?;
-        self.to.flush()
-    }
-
-    /// What it said to the batch that was sent.
-    pub fn hear(&mut self, requests: &[Request]) -> io::Result<Vec<Said>> {
-        let mut length = [0; 4];
-        self.from.read_exact(&mut length)?;
-        let mut bytes = vec![0; u32::from_le_bytes(length) as usize];
-        self.from.read_exact(&mut bytes)?;
-        let mut rest = &bytes[..];
-        let mut said = Vec::with_capacity(requests.len());
-        for request in requests {
-            let (head, tail) = rest.split_at(88);
-            let word = |at: usize| u32::from_le_bytes(head[at..at + 4].try_into().unwrap());
-            let long = |at: usize| i64::from_le_bytes(head[at..at + 8].try_into().unwrap());
-            let size = request.call.buffer().map_or(0, |(size, _)| size);
-            let whole = if size == 0 {
-                0
-            } else {
-                16 + usize::from(request.room) * size + 16
-            };
-            said.push(Said {
-                refusal: Refusal {
-                    number: word(0),
-                    room: word(4),
-                    x: word(8) as i32,
-                    y: word(12) as i32,
-                    z: word(16) as i32,
-                },
-                changed: word(20) != 0,
-                values: [0, 1, 2, 3, 4, 5, 6, 7].map(|place| long(24 + 8 * place)),
-                after: tail[..whole].to_vec(),
-            });
-            rest = &tail[whole..];
+        if said.values != wanted.values {
+            wrong.push(format!(
+                "gave {:X?}, wanted {:X?}",
+                said.values, wanted.values
+            ));
         }
-        Ok(said)
+        if said.changed {
+            wrong.push("wrote to a lent cell".to_string());
+        }
+        if said.after != after {
+            let place = said
+                .after
+                .iter()
+                .zip(&after)
+                .position(|(one, other)| one != other)
+                .unwrap();
+            wrong.push(format!(
+                "left at byte {} of the buffer {}, wanted {}",
+                place as i64 - 16,
+                hex(&said.after[place..(place + 16).min(after.len())]),
+                hex(&after[place..(place + 16).min(after.len())])
+            ));
+        }
+        // Lengths and rooms stand before and behind the ranges.
+        if wanted.refusal.number != BAD_LIST && wanted.refusal.number != NO_ROOM {
+            if let Some(number) = by_the_ranges(self) {
+                if number != wanted.refusal.number {
+                    wrong.push(format!(
+                        "the Rust refuses with {}, the specification's ranges with {number}",
+                        wanted.refusal.number
+                    ));
+                }
+            }
+        }
+        wrong
     }
 
-    /// Ends the program and waits for it.
-    pub fn end(mut self) {
-        drop(self.to);
-        let _ = self.child.wait();
+    fn size(&self) -> u128 {
+        Request::size(self)
+    }
+
+    fn words(&self) -> String {
+        Request::words(self)
     }
 }

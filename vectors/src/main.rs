@@ -1,9 +1,9 @@
-//! Writes a fixed list of the oracle's answers, which the crate `replay` replays with no Rust at hand.
-//! No library is involved, and the file is the same each time.
+//! Writes two fixed lists of the oracle's answers, which the crate `replay` replays with no Rust at hand.
+//! No library is involved, and the files are the same each time.
 //!
-//!     vectors [FILE]        crates/replay/data/answers.bin unless named
+//!     vectors [FOLDER]      answers.bin and layers.bin, in crates/replay/data unless named
 //!
-//! The file is records of 64 bytes, at most 1,000, all numbers big-endian:
+//! `layers.bin` is described in layers.rs. `answers.bin` is records of 64 bytes, at most 1,000, all numbers big-endian:
 //!
 //! | bytes | what |
 //! |---|---|
@@ -45,8 +45,11 @@
 //! | 23 | cell_distance(first, second) | bits |
 //! | 24 | cell_manhattan_distance(first, second) | i32 |
 
+mod layers;
+
 use compare::calls::{Call, Parameter, Request};
 use compare::expected::{expected, quiet, Answer};
+use compare::random::Random;
 
 const RECORD: usize = 64;
 const MIN: i64 = i32::MIN as i64;
@@ -366,25 +369,16 @@ fn snaps(list: &mut List) {
     }
 }
 
-/// Numbers that look random and are the same each time (splitmix64).
-fn next(state: &mut u64) -> u64 {
-    *state = state.wrapping_add(0x9E37_79B9_7F4A_7C15);
-    let mut word = *state;
-    word = (word ^ (word >> 30)).wrapping_mul(0xBF58_476D_1CE4_E5B9);
-    word = (word ^ (word >> 27)).wrapping_mul(0x94D0_49BB_1331_11EB);
-    word ^ (word >> 31)
-}
-
 /// Points about as far from (0, 0, 0) as from (1, 1, 1), where another way to sum the squares
 /// would choose the other point: four for the sum from the other end, four for fused products.
 fn rounded_ties() -> Vec<[f64; 3]> {
     let plain = |[x, y, z]: [f64; 3]| x * x + y * y + z * z;
     let other_end = |[x, y, z]: [f64; 3]| z * z + y * y + x * x;
     let fused = |[x, y, z]: [f64; 3]| z.mul_add(z, y.mul_add(y, x * x));
-    let mut state = 1;
+    let mut random = Random::new(1);
     let mut found = [Vec::new(), Vec::new()];
     while found.iter().any(|points| points.len() < 4) {
-        let [x, y] = [(); 2].map(|()| (next(&mut state) >> 11) as f64 / (1u64 << 53) as f64);
+        let [x, y] = [(); 2].map(|()| (random.next() >> 11) as f64 / (1u64 << 53) as f64);
         let even = [x, y, 1.5 - x - y];
         let odd = even.map(|number| 1.0 - number);
         let chosen = plain(even) <= plain(odd);
@@ -406,10 +400,10 @@ fn rounded_ties() -> Vec<[f64; 3]> {
 
 /// Pairs whose distance would be another if the squares were summed from the other end.
 fn rounded_pairs() -> Vec<[Point; 2]> {
-    let mut state = 2;
+    let mut random = Random::new(2);
     let mut found = Vec::new();
     while found.len() < 6 {
-        let point = [(); 3].map(|()| ((next(&mut state) as i32) >> 1 & !1) as i64);
+        let point = [(); 3].map(|()| ((random.next() as i32) >> 1 & !1) as i64);
         let [x, y, z] = point.map(|number| number as f64);
         let sums = [x * x + y * y + z * z, z * z + y * y + x * x];
         if sums[0].sqrt() != sums[1].sqrt() {
@@ -577,10 +571,22 @@ fn cells(list: &mut List) {
     }
 }
 
+/// Writes one list, of records that are at most so many.
+fn write(folder: &str, name: &str, bytes: &[u8], most: usize) {
+    let file = format!("{folder}/{name}");
+    let records = bytes.len() / RECORD;
+    assert!(records <= most, "{records} records do not fit the format");
+    if let Err(error) = std::fs::write(&file, bytes) {
+        eprintln!("vectors: {file}: {error}");
+        std::process::exit(2);
+    }
+    println!("{file}: {records} records");
+}
+
 fn main() {
-    let file = std::env::args()
+    let folder = std::env::args()
         .nth(1)
-        .unwrap_or_else(|| "crates/replay/data/answers.bin".to_string());
+        .unwrap_or_else(|| "crates/replay/data".to_string());
     quiet();
     let mut list = List { bytes: Vec::new() };
     roots(&mut list);
@@ -588,11 +594,6 @@ fn main() {
     snaps(&mut list);
     distances(&mut list);
     cells(&mut list);
-    let records = list.bytes.len() / RECORD;
-    assert!(records <= 1000, "{records} records do not fit the format");
-    if let Err(error) = std::fs::write(&file, &list.bytes) {
-        eprintln!("vectors: {file}: {error}");
-        std::process::exit(2);
-    }
-    println!("{file}: {records} records");
+    write(&folder, "answers.bin", &list.bytes, 1000);
+    write(&folder, "layers.bin", &layers::records(), 400);
 }

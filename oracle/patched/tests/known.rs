@@ -148,6 +148,14 @@ fn layers_are_ascending() {
     assert_eq!(layer.rollup(Aggregation::Count).unwrap().len(), 2);
 }
 
+#[test]
+fn sums_begin_at_minus_zero() {
+    let mut layer = Layer::new("");
+    layer.set(plain(0, 0, 0), -0.0);
+    let sum = layer.aggregate(&[plain(0, 0, 0)], Aggregation::Sum);
+    assert_eq!(sum.unwrap().to_bits(), (-0.0f64).to_bits());
+}
+
 // ---- the knowing differences
 
 #[test]

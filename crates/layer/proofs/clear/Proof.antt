@@ -1,4 +1,4 @@
--- Zeros up to the end of the last whole record within the limit.
+-- Zeros up to the end of the last whole record within the limit. Assumes nothing.
 use native.Mathlib.Omega.{arith}
 use borrow.Author.Needs.{needs}
 use Rattle.layer.specs.Laws.{rows-within}

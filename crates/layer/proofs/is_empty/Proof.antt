@@ -1,4 +1,4 @@
--- A sound layer is empty where its count is 0.
+-- A sound layer is empty where its count is 0. Assumes nothing.
 use mathlib.Core.Path.{sym, _∙_}
 use borrow.Author.Needs.{needs}
 use borrow.Author.Tests.{eq-eqb, ne-eqb}

@@ -1,4 +1,4 @@
--- First the layer, then the room, then the copy.
+-- First the layer, then the room, then the copy. Assumes nothing.
 use mathlib.Core.Path.{sym, ap, _∙_}
 use native.Mathlib.Omega.{arith}
 use borrow.Author.Needs.{needs}

@@ -1,4 +1,4 @@
--- The one flag that blocks is bit 0.
+-- The one flag that blocks is bit 0. Assumes nothing.
 use mathlib.Core.Path.{sym, _∙_}
 use borrow.Author.Needs.{needs}
 use Rattle.layer.specs.Flags.{blocked-is-flag}

@@ -1,4 +1,4 @@
--- A copy from place 0 to place 0.
+-- A copy from place 0 to place 0. Assumes nothing.
 use mathlib.Core.Path.{ap, _∙_}
 use mathlib.Core.List.{_++_}
 use Prim.Native.Nat.{ℕ}

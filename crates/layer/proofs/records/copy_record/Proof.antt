@@ -1,4 +1,4 @@
--- The first i of the bytes that follow `from` stand in the other table.
+-- The first i of the bytes that follow `from` stand in the other table. Assumes nothing.
 use Prim.Native.Nat.{_-_}
 use native.Mathlib.Omega.{arith}
 use lib.ListN.{drop, length-drop}

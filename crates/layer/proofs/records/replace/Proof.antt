@@ -1,4 +1,4 @@
--- The rows' own bytes at the front, then zeros up to the room.
+-- The rows' own bytes at the front, then zeros up to the room. Assumes nothing.
 use mathlib.Core.Path.{ap, _∙_}
 use Prim.Native.Nat.{ℕ}
 use native.Mathlib.Nat.{mul-le-mul-left}

@@ -1,4 +1,4 @@
--- The first i of the zeros stand in the table.
+-- The first i of the zeros stand in the table. Assumes nothing.
 use Prim.Native.Nat.{ℕ, _-_}
 use native.Mathlib.Omega.{arith}
 use lib.ListN.{replicate, length-replicate, getD-replicate}

@@ -1,0 +1,9 @@
+//! The calls on layers, aggregates and survey files: as data, what they have to say, and inputs.
+
+pub mod calls;
+pub mod expected;
+mod library;
+pub mod limits;
+pub mod random;
+pub mod survey;
+pub mod table;
