@@ -3,8 +3,8 @@ use mathlib.Core.Path.{_≡_, refl}
 use mathlib.Core.List.{List, [], _∷_}
 use Prim.Native.Nat.{ℕ, _+_, _*_, _/_, _%_, _≤_, _<_}
 use native.Mathlib.Omega.{arith}
-use lib.ListN.{length, getD, set, take, drop}
-use lib.Seq.{sets, drop-cons}
+use lib.ListN.{length, getD, set}
+use lib.Seq.{drop-cons}
 use Rattle.words.specs.Word.{Order, big, little, lowDigits, number, ordered, bytesOf, word, stored}
 use Rattle.words.specs.Laws.{word-split-big, stored-split-big}
 
