@@ -5,3 +5,4 @@ pub mod Bits
 pub mod Bytes
 pub mod Stored
 pub mod BytesLaws
+pub mod Lists
