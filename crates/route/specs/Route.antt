@@ -91,3 +91,9 @@ verdictOf route start goal cost l n rule =
     15)
     14)
     13
+
+-- ---- the choice between two lists
+
+-- "the sent list itself if accepted, else the homing list itself if that is accepted, else an empty part of the sent one": 1, 2, 0, by the verdicts on the two
+unfoldable pub choiceOf : ℕ → ℕ → ℕ
+choiceOf sent homing = cond (eqb sent 0) 1 (cond (eqb homing 0) 2 0)
