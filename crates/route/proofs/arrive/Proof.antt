@@ -1,30 +1,39 @@
+-- First the goal, then the bits of the cost.
+use mathlib.Core.Path.{_≡_, sym, _∙_}
+use mathlib.Core.Bool.{cond}
 use borrow.Author.Needs.{needs}
+use borrow.Author.Tests.{eq-eqb, ne-eqb}
+use lib.Dec.{eqb}
+use lib.Ieee.{binary64, toBits}
+use Rattle.cell.specs.Cell.{sameCell}
 use Rattle.route.proofs.arrive.Statement.{statement}
 use Rattle.route.proofs.arrive.Tie as tie
-use Rattle.route.proofs.arrive.Reads as reads
-use Rattle.route.proofs.arrive.Lts as lts
-use Rattle.cell.proofs.same.Reads as same-reads
-use Rattle.float.proofs.bits.Reads as bits-reads
 
--- src/lib.rt:105:8
 same-requires : tie.Need-same-requires
 same-requires c κs = search needs
 
--- src/lib.rt:106:12
 bits-requires : tie.Need-bits-requires
 bits-requires c κs = search needs
 
--- src/lib.rt:107:13
 returns : tie.Need-returns
-returns c = ?
+returns c =
+    let args = c .before .before .before .before .args in
+    let there : _ ≡ sameCell (args .last) (args .goal) = sym (c .before .before .if1 .taken) ∙ c .before .before .before .same .ensures in
+    let right : _ ≡ eqb (toBits binary64 (args .paid)) (args .cost) = sym (eq-eqb _ _ (sym (c .before .bits .ensures) ∙ c .if2 .taken)) in
+    λ i. cond (there i) (cond (right i) 0 25) 24
 
--- src/lib.rt:109:9
 returns-2 : tie.Need-returns-2
-returns-2 c = ?
+returns-2 c =
+    let args = c .before .before .before .before .args in
+    let there : _ ≡ sameCell (args .last) (args .goal) = sym (c .before .before .if1 .taken) ∙ c .before .before .before .same .ensures in
+    let wrong : _ ≡ eqb (toBits binary64 (args .paid)) (args .cost) = sym (ne-eqb _ _ (λ e. c .if2 .left (c .before .bits .ensures ∙ e))) in
+    λ i. cond (there i) (cond (wrong i) 0 25) 24
 
--- src/lib.rt:102:1
 returns-3 : tie.Need-returns-3
-returns-3 c = ?
+returns-3 c =
+    let args = c .before .before .args in
+    let there : _ ≡ sameCell (args .last) (args .goal) = sym (c .if1 .left) ∙ c .before .same .ensures in
+    λ i. cond (there i) (cond (eqb (toBits binary64 (args .paid)) (args .cost)) 0 25) 24
 
 pub arrive-spec : {M : Type 1} → statement M
 arrive-spec = tie.close (tie.spec same-requires bits-requires returns returns-2 returns-3)
