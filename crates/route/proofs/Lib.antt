@@ -1,3 +1,5 @@
-pub mod Squares
-pub mod Shut
-pub mod Parities
+mod Squares
+mod Shut
+mod Parities
+pub mod OneAnswer
+pub mod Points

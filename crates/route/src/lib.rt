@@ -9,6 +9,7 @@ ghost use Rattle.cell.specs.Lists.{isList, cellsOf};
 ghost use Rattle.layer.specs.Layer.{rowsOf, isSound};
 ghost use Rattle.route.specs.Near.{shortSquare, isNear};
 ghost use Rattle.route.specs.Route.{isStep, costBetween, isShut, arrived, judgeWalk, judgeCells, areLists, verdictOf};
+ghost use Rattle.route.specs.Choice.{choiceBetween, Chosen};
 ghost use Rattle.route.specs.Walks.{walkOf};
 use layer::Place;
 use refusal::Cell;
@@ -195,4 +196,74 @@ pub fn verdict(
     let first = cell::read_at(start, 0);
     let last = cell::read_at(goal, 0);
     judge(route, first, last, cost, flags, count, rule)
+}
+
+// The choices between two routes.
+const NEITHER: u32 = 0;
+
+const SENT: u32 = 1;
+
+const HOMING: u32 = 2;
+
+// Which of two routes is flown, by their verdicts: the sent one, from `start` to `goal` at `cost`, before the homing one, from `departure` to `home` at `price`.
+pub fn choice(
+    sent: &[u8],
+    homing: &[u8],
+    start: &[u8],
+    goal: &[u8],
+    cost: u64,
+    departure: &[u8],
+    home: &[u8],
+    price: u64,
+    flags: &[u8],
+    count: usize,
+    rule: u32,
+) -> u32
+    ensures { λ r. ⌜ r ≡ choiceBetween (now (sent .entry)) (now (homing .entry)) (now (start .entry)) (now (goal .entry)) cost (now (departure .entry)) (now (home .entry)) price (now (flags .entry)) count rule ⌝ }
+{
+    if verdict(sent, start, goal, cost, flags, count, rule) == ACCEPTED {
+        return SENT;
+    }
+    if verdict(homing, departure, home, price, flags, count, rule) == ACCEPTED {
+        return HOMING;
+    }
+    NEITHER
+}
+
+// Hands back the sent list itself, or the homing list itself, or the first no bytes of the sent one, as `choice` says.
+pub fn choose<'a>(
+    sent: &'a [u8],
+    homing: &'a [u8],
+    start: &[u8],
+    goal: &[u8],
+    cost: u64,
+    departure: &[u8],
+    home: &[u8],
+    price: u64,
+    flags: &[u8],
+    count: usize,
+    rule: u32,
+) -> &'a [u8]
+    ensures { λ r. ⌜ Chosen (choiceBetween (now (sent .entry)) (now (homing .entry)) (now (start .entry)) (now (goal .entry)) cost (now (departure .entry)) (now (home .entry)) price (now (flags .entry)) count rule) (sent .entry) (homing .entry) r ⌝ }
+{
+    let which = choice(
+        sent,
+        homing,
+        start,
+        goal,
+        cost,
+        departure,
+        home,
+        price,
+        flags,
+        count,
+        rule,
+    );
+    if which == SENT {
+        return sent;
+    }
+    if which == HOMING {
+        return homing;
+    }
+    &sent[..0]
 }
