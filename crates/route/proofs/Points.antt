@@ -33,5 +33,5 @@ pub four-verdicts :
     × (judged two-diagonals (cell 0 0 0) (cell 2 2 0) 0x400B_B67A_E858_4CAB ≡ 25)
     × (judged [] (cell 0 0 0) (cell 2 2 0) 0 ≡ 20)
     × (judged (cell 2147483646 0 0 ∷ cell 2147483644 0 0 ∷ []) (cell 2147483646 0 0) (cell 2147483644 0 0) 0x4000_0000_0000_0000 ≡ 0)
-unfolding verdictOf judgeCells walkFrom isStep amongPlaces isShut costBetween heldOf rowsOf rowsFrom ascending isSound cellsOf cellsFrom cellAt cellBytes coordOf packed isLatticePoint neighborSteps neighborPlaces rawOf lowDigits number ordered bytesOf word flatMap add ofBits toBits
+unfolding verdictOf cellBytes bytesOf ordered lowDigits number rawOf flatMap add ofBits toBits
 four-verdicts = (refl, refl, refl, refl)
