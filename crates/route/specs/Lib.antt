@@ -1,0 +1,6 @@
+pub mod Route
+pub mod Accepted
+pub mod Choice
+pub mod Near
+pub mod StepLaws
+pub mod Walks
