@@ -4,3 +4,5 @@ pub mod Choice
 pub mod Near
 pub mod StepLaws
 pub mod Walks
+pub mod AcceptedLaws
+pub mod Demand
