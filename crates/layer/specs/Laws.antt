@@ -5,6 +5,7 @@ use mathlib.Core.List.{List}
 use Prim.Native.Nat.{ℕ, zero, suc, _+_, _-_, _*_, _/_, _≤_, _<_}
 use mathlib.Core.Logic.{⊎-elim}
 use native.Mathlib.Nat.{eq-or-lt-of-le, min-le-right, mul-div-le, mul-le-mul-left, mul-suc}
+use native.Mathlib.Numerals.{add-one}
 use native.Mathlib.Omega.{arith}
 use borrow.Author.Tests.{leb-true, ltb-true, ltb-false, eqb-true, ne-eqb}
 use lib.Dec.{leb, ltb}
@@ -17,6 +18,7 @@ use Rattle.cell.specs.Bytes.{cellAt}
 use Rattle.cell.specs.Laws.{less-transitive}
 use Rattle.lattice.specs.Signs.{both}
 use Rattle.layer.specs.Layer.{mostCells, roomFor, rowAt, rowsFrom, rowsOf, ascending, isSound, held, nothing, heldOf}
+use Rattle.layer.specs.declared.Place.{Place}
 use Rattle.layer.specs.declared.Place.the-variants.{At, Before}
 use Rattle.layer.specs.Places.{Stands}
 
@@ -75,22 +77,29 @@ module _ (w : ℕ) (l : List ℕ) where
   unfolding isSound
   sound-room n e = leb-true n (roomFor w l) (both (leb n (roomFor w l)) (ascending (rowsOf w l n)) e .0)
 
-  -- and they ascend: of any two the earlier one is below the other
-  pub sound-less : (n : ℕ) → isSound w l n ≡ true → (k j : ℕ) → j < k → k < n → lessCell (rowAt w l j .cell) (rowAt w l k .cell) ≡ true
+  -- and they ascend
+  pub sound-ascending : (n : ℕ) → isSound w l n ≡ true → ascending (rowsOf w l n) ≡ true
   unfolding isSound
+  sound-ascending n e = both (leb n (roomFor w l)) (ascending (rowsOf w l n)) e .1
+
+  -- of any two the earlier one is below the other
+  pub sound-less : (n : ℕ) → isSound w l n ≡ true → (k j : ℕ) → j < k → k < n → lessCell (rowAt w l j .cell) (rowAt w l k .cell) ≡ true
   sound-less n e zero j h b = absurd (omega arith)
   sound-less n e (suc k) j h b =
-      let last = ascended n (both (leb n (roomFor w l)) (ascending (rowsOf w l n)) e .1) k b in
+      let last = ascended n (sound-ascending n e) k b in
       ⊎-elim
       (λ (q : j ≡ k). subst (λ (m : ℕ). lessCell (rowAt w l m .cell) (rowAt w l (suc k) .cell) ≡ true) (sym q) last)
       (λ (q : j < k). less-transitive (rowAt w l j .cell) (rowAt w l k .cell) (rowAt w l (suc k) .cell) (sound-less n e k j q (omega arith)) last)
       (eq-or-lt-of-le {n = j} {m = k} (omega arith))
 
-  -- a record that there is room for lies within the table
+  -- records that there is room for lie within the table
+  pub rows-within : (n : ℕ) → n ≤ roomFor w l → w * n ≤ length l
+  rows-within n h =
+      let room : n ≤ length l / w = omega (arith, min-le-right mostCells (length l / w)) in
+      omega (arith, mul-le-mul-left w room, mul-div-le (length l) w)
+
   pub row-within : (n i : ℕ) → n ≤ roomFor w l → i < n → w * i + w ≤ length l
-  row-within n i h b =
-      let room : suc i ≤ length l / w = omega (arith, min-le-right mostCells (length l / w)) in
-      omega (arith, mul-suc w i, mul-le-mul-left w room, mul-div-le (length l) w)
+  row-within n i h b = omega (arith, mul-suc w i, rows-within (suc i) (omega arith))
 
 -- ---- what is kept of a cell that was searched for
 
@@ -131,3 +140,20 @@ module _ (w : ℕ) (l : List ℕ) (c : Cell) where
       differs : (k : ℕ) → k < n → (t : Bool) → ltb k i ≡ t → rawOf (rowAt w l k .cell) ≡ rawOf c → ⊥
       differs k h true e q = omega (arith, ltb-true (rawOf (rowAt w l k .cell)) (rawOf c) (s .below k (ltb-true k i e)))
       differs k h false e q = omega (arith, ltb-true (rawOf c) (rawOf (rowAt w l k .cell)) (s .above k (ltb-false k i e) h))
+
+  -- a record that was found lies within the table
+  at-within : (n i : ℕ) → isSound w l n ≡ true → Stands w l n c (At i) → w * (i + 1) ≤ length l
+  unfolding Stands
+  at-within n i e s =
+      let q : w * (i + 1) ≡ w * suc i = ap (λ (j : ℕ). w * j) (add-one i) in
+      omega (arith, q, mul-suc w i, row-within w l n i (sound-room w l n e) (s .within))
+
+  pub found-within : (n i : ℕ) {p : Place} → isSound w l n ≡ true → Stands w l n c p → p ≡ At i → w * (i + 1) ≤ length l
+  found-within n i e s q = at-within n i e (subst (Stands w l n c) q s)
+
+  -- what the layer holds of the cell, by the search's answer and what was read there
+  pub found-held : (n i : ℕ) {p : Place} {k : ℕ} → isSound w l n ≡ true → Stands w l n c p → p ≡ At i → k ≡ rowAt w l i .kept → heldOf c (rowsOf w l n) ≡ held k
+  found-held n i e s q r = find-is-held n i e (subst (Stands w l n c) q s) ∙ ap held (sym r)
+
+  pub missing-held : (n i : ℕ) {p : Place} → Stands w l n c p → p ≡ Before i → heldOf c (rowsOf w l n) ≡ nothing
+  missing-held n i s q = find-is-nothing n i (subst (Stands w l n c) q s)
