@@ -1,10 +1,8 @@
 -- Two answers that meet the contract of a call on a layer agree, and so does what they leave in the memory that was lent to them. Assumes nothing.
-use mathlib.Core.Path.{_≡_, sym, ap, _∙_}
-use mathlib.Core.List.{List}
-use Prim.Native.Nat.{ℕ}
+use mathlib.Core.Path.{sym, _∙_}
 use denote.Ref.{at-last}
 use Rattle.refusal.specs.OneAnswer.{OneAnswer, OneExit}
-use Rattle.layer.specs.Changes.{Changed, changed}
+use Rattle.layer.specs.ChangeLaws.{same-said, same-bytes}
 use Rattle.layer.proofs.room_for.Kinds as room-for-kinds
 use Rattle.layer.proofs.room_for.Reads as room-for
 use Rattle.layer.proofs.is_sound.Kinds as is-sound-kinds
@@ -65,14 +63,6 @@ use Rattle.layer.proofs.flags.clear_flag.Kinds as clear-flag-kinds
 use Rattle.layer.proofs.flags.clear_flag.Reads as clear-flag
 use Rattle.layer.proofs.flags.is_blocked.Kinds as is-blocked-kinds
 use Rattle.layer.proofs.flags.is_blocked.Reads as is-blocked
-
--- what is told of a call that changes lent bytes decides its answer and those bytes
-module _ {A : Type 0} {a b : A} {l m : List ℕ} {g : Changed A} (p : changed a l ≡ g) (q : changed b m ≡ g) where
-  same-said : a ≡ b
-  same-said = ap (λ (h : Changed A). h .said) (p ∙ sym q)
-
-  same-bytes : l ≡ m
-  same-bytes = ap (λ (h : Changed A). h .bytes) (p ∙ sym q)
 
 pub room-for-one : OneAnswer 1 room-for-kinds.ps room-for-kinds.r room-for.Post
 room-for-one κs a z z′ e e′ p q = p ∙ sym q

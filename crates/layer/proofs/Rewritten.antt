@@ -21,7 +21,7 @@ use Rattle.layer.specs.Laws.{sound-room, sound-ascending, rows-within, f
 use Rattle.layer.specs.Bytes.{length-rowsFrom}
 use Rattle.layer.specs.Map.{length-with-new, length-with-held, without-none}
 use Rattle.layer.specs.Calls.{ofHeld}
-use Rattle.layer.specs.Changes.{Changed, changed, saying, given, relaid, refilled, setBy, setIn, removeBy, removeIn}
+use Rattle.layer.specs.Changes.{Changed, changed, given, relaid, refilled, setBy, setIn, removeBy, removeIn}
 use Rattle.layer.specs.ChangeLaws.{remove-says-held, with-at, with-before, without-at, laid-parts, refilled-parts, refilled-rows}
 use Rattle.layer.specs.declared.HeldAnswer.{HeldAnswer}
 use Rattle.layer.specs.declared.HeldAnswer.the-variants.{Kept, Nothing}
@@ -127,10 +127,6 @@ module _ (w : ℕ) (l : List ℕ) (n : ℕ) where
 
   pub by-soundness : {A : Type 0} {t : Bool} (x y : A) → isSound w l n ≡ t → cond t x y ≡ cond (isSound w l n) x y
   by-soundness x y e = ap (λ (t : Bool). cond t x y) (sym e)
-
--- an answer, in the words of another
-pub said-as : {A B : Type 0} (f : A → B) {r q : A} {x : List ℕ} {z : Changed A} → changed r x ≡ z → r ≡ q → changed (f q) x ≡ saying f z
-said-as {A} f {x = x} e known = ap (λ (r : A). changed (f r) x) (sym known) ∙ ap (saying f) e
 
 -- flags that were removed are below 2^32
 pub removed-low : (l : List ℕ) (n : ℕ) (m : List ℕ) {r : HeldAnswer} {x : List ℕ} {k : ℕ} → Bytes l → changed r x ≡ removeIn 20 l n m → r ≡ Kept k → k < 4294967296

@@ -1,5 +1,5 @@
 -- What a cell's place says of the records: where `set` and `remove` change them, by index, and which bytes of the table that is. Over the width of a record. Assumes nothing.
-use mathlib.Core.Path.{_≡_, refl, ap, ap₂, _∙_}
+use mathlib.Core.Path.{_≡_, refl, sym, ap, ap₂, _∙_}
 use mathlib.Core.Bool.{Bool, true, false, cond}
 use mathlib.Core.List.{List, _∷_, _++_, flatMap, append-assoc}
 use Prim.Native.Nat.{ℕ, zero, suc, _+_, _-_, _*_, _≤_, _<_}
@@ -19,7 +19,7 @@ use Rattle.layer.specs.Layer.{Row, rowAt, rowsFrom, rowsOf, isSound, hel
 use Rattle.layer.specs.Places.{IsAt, GoesBefore}
 use Rattle.layer.specs.Laws.{sound-less}
 use Rattle.layer.specs.Bytes.{flatMap-append, length-rowsFrom, rows-part, bytes-of-rows}
-use Rattle.layer.specs.Changes.{changed, given, refilled, removeBy, removeIn}
+use Rattle.layer.specs.Changes.{Changed, changed, saying, given, refilled, removeBy, removeIn}
 use Rattle.layer.specs.Calls.{ofHeld, heldBy, heldIn}
 use Rattle.layer.specs.declared.HeldAnswer.{HeldAnswer}
 use Rattle.layer.specs.declared.HeldAnswer.the-variants as kept
@@ -54,6 +54,18 @@ unfolding withoutCell
 without-same c r rs e = rw e
 
 -- ---- what is said
+
+-- an answer, in the words of another
+pub said-as : {A B : Type 0} (f : A → B) {r : A} {q : B} {x : List ℕ} {z : Changed A} → changed r x ≡ z → q ≡ f r → changed q x ≡ saying f z
+said-as {B = B} f {x = x} e known = ap (λ (q : B). changed q x) known ∙ ap (saying f) e
+
+-- what is told of a call that changes lent bytes decides its answer and those bytes
+module _ {A : Type 0} {a b : A} {l m : List ℕ} {g : Changed A} (p : changed a l ≡ g) (q : changed b m ≡ g) where
+  pub same-said : a ≡ b
+  same-said = ap (λ (h : Changed A). h .said) (p ∙ sym q)
+
+  pub same-bytes : l ≡ m
+  same-bytes = ap (λ (h : Changed A). h .bytes) (p ∙ sym q)
 
 -- remove says what get would have said
 pub remove-says-held : (w : ℕ) (l : List ℕ) (n : ℕ) (m : List ℕ) → removeIn w l n m .said ≡ heldIn w l n m

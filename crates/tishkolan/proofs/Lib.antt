@@ -5,4 +5,5 @@ pub mod Given
 pub mod Found
 pub mod OneAnswer
 pub mod OneAnswerCells
+pub mod OneAnswerLayers
 pub mod KnownPoints

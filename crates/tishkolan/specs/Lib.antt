@@ -1,3 +1,4 @@
 pub mod Told
 pub mod Points
 pub mod Cells
+pub mod Layers

@@ -1,4 +1,6 @@
 // The C face: every public call, exported on numbers and byte slices. include/tishkolan.h declares what stands here.
 pub mod cells;
+pub mod flags;
+pub mod layers;
 pub mod points;
 pub mod told;

@@ -64,6 +64,22 @@ pub struct FieldsTold {
     pub z: i32,
 }
 
+// A layer's count after the call.
+#[repr(C)]
+pub struct CountTold {
+    pub refusal: RefusalTold,
+    pub count: u64,
+}
+
+// What is kept of a cell, flags or the bits of a value, and the layer's count after the call.
+#[repr(C)]
+pub struct KeptTold {
+    pub refusal: RefusalTold,
+    pub found: u32,
+    pub kept: u64,
+    pub count: u64,
+}
+
 const NOWHERE: Coord = Coord { x: 0, y: 0, z: 0 };
 
 fn telling(number: u32, room: u32, place: Coord) -> RefusalTold

@@ -1,7 +1,9 @@
 -- Each answer by what was kept, which 32 bits can hold.
+use mathlib.Core.Path.{sym, ap}
 use native.Mathlib.Omega.{arith}
 use Rattle.layer.specs.Calls.{ofFlags}
-use Rattle.layer.proofs.Rewritten.{removed-low, said-as}
+use Rattle.layer.specs.ChangeLaws.{said-as}
+use Rattle.layer.proofs.Rewritten.{removed-low}
 use borrow.Author.Needs.{needs}
 use Rattle.layer.proofs.changes.remove_flags.Statement.{statement}
 use Rattle.layer.proofs.changes.remove_flags.Tie as tie
@@ -27,19 +29,19 @@ same-length : tie.Need-same-length
 same-length c = search needs
 
 returns : tie.Need-returns
-returns c = said-as ofFlags (c .before .before .before .before .before .remove .ensures) (c .before .kept .given .1)
+returns c = said-as ofFlags (c .before .before .before .before .before .remove .ensures) (ap ofFlags (sym (c .before .kept .given .1)))
 
 same-length-2 : tie.Need-same-length-2
 same-length-2 c = search needs
 
 returns-2 : tie.Need-returns-2
-returns-2 c = said-as ofFlags (c .before .before .before .before .remove .ensures) (c .enum-told .given .1)
+returns-2 c = said-as ofFlags (c .before .before .before .before .remove .ensures) (ap ofFlags (sym (c .enum-told .given .1)))
 
 same-length-3 : tie.Need-same-length-3
 same-length-3 c = search needs
 
 returns-3 : tie.Need-returns-3
-returns-3 c = said-as ofFlags (c .before .before .before .before .before .remove .ensures) (c .before .kept2 .given .1)
+returns-3 c = said-as ofFlags (c .before .before .before .before .before .remove .ensures) (ap ofFlags (sym (c .before .kept2 .given .1)))
 
 pub remove-flags-spec : {M : Type 1} → statement M
 remove-flags-spec =

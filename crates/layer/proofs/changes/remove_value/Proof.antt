@@ -1,6 +1,7 @@
 -- Each answer by what was kept.
+use mathlib.Core.Path.{sym, ap}
 use Rattle.layer.specs.Calls.{ofValue}
-use Rattle.layer.proofs.Rewritten.{said-as}
+use Rattle.layer.specs.ChangeLaws.{said-as}
 use borrow.Author.Needs.{needs}
 use Rattle.layer.proofs.changes.remove_value.Statement.{statement}
 use Rattle.layer.proofs.changes.remove_value.Tie as tie
@@ -21,19 +22,19 @@ same-length : tie.Need-same-length
 same-length c = search needs
 
 returns : tie.Need-returns
-returns c = said-as ofValue (c .before .before .before .before .before .remove .ensures) (c .before .kept .given .1)
+returns c = said-as ofValue (c .before .before .before .before .before .remove .ensures) (ap ofValue (sym (c .before .kept .given .1)))
 
 same-length-2 : tie.Need-same-length-2
 same-length-2 c = search needs
 
 returns-2 : tie.Need-returns-2
-returns-2 c = said-as ofValue (c .before .before .before .before .remove .ensures) (c .enum-told .given .1)
+returns-2 c = said-as ofValue (c .before .before .before .before .remove .ensures) (ap ofValue (sym (c .enum-told .given .1)))
 
 same-length-3 : tie.Need-same-length-3
 same-length-3 c = search needs
 
 returns-3 : tie.Need-returns-3
-returns-3 c = said-as ofValue (c .before .before .before .before .before .remove .ensures) (c .before .kept2 .given .1)
+returns-3 c = said-as ofValue (c .before .before .before .before .before .remove .ensures) (ap ofValue (sym (c .before .kept2 .given .1)))
 
 pub remove-value-spec : {M : Type 1} → statement M
 remove-value-spec =
