@@ -1,10 +1,25 @@
-//! Links the library: what TISHKOLAN_LIBRARY names, as bench/run sets it.
+//! Links the library: what TISHKOLAN_LIBRARY names, as bench/run sets it. Calls that it does not
+//! have are not timed.
+
+const GROUPS: [(&str, &str); 2] = [
+    ("aggregates", "tishkolan_values_rollup"),
+    ("survey", "tishkolan_survey_write"),
+];
 
 fn main() {
     println!("cargo:rerun-if-env-changed=TISHKOLAN_LIBRARY");
-    if let Ok(library) = std::env::var("TISHKOLAN_LIBRARY") {
-        println!("cargo:rerun-if-changed={library}");
-        println!("cargo:rustc-link-arg={library}");
-        println!("cargo:rustc-link-arg=-lm");
+    let library = std::env::var("TISHKOLAN_LIBRARY").unwrap_or_default();
+    let bytes = std::fs::read(&library).unwrap_or_default();
+    println!("cargo:rerun-if-changed={library}");
+    println!("cargo:rustc-link-arg={library}");
+    println!("cargo:rustc-link-arg=-lm");
+    for (group, call) in GROUPS {
+        println!("cargo:rustc-check-cfg=cfg({group})");
+        if bytes
+            .windows(call.len())
+            .any(|name| name == call.as_bytes())
+        {
+            println!("cargo:rustc-cfg={group}");
+        }
     }
 }

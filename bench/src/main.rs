@@ -2,13 +2,31 @@
 //! the same inputs, in turn, in one run. Prints nanoseconds per call and the library's time over the
 //! Rust's. The two must give the same answers.
 //!
-//!   bench [cells] [layers] [survey]    those lines alone
+//!   bench [cells] [layers] [aggregates] [survey]    those lines alone
 
+#[cfg(aggregates)]
+mod aggregates;
 mod cells;
+#[cfg_attr(not(all(aggregates, survey)), allow(dead_code))]
 mod face;
 mod layers;
+#[cfg(survey)]
 mod survey;
 mod timing;
+
+#[cfg(not(aggregates))]
+mod aggregates {
+    pub fn rows() {
+        println!("aggregates and rollups: not in this library");
+    }
+}
+
+#[cfg(not(survey))]
+mod survey {
+    pub fn rows() {
+        println!("survey files: not in this library");
+    }
+}
 
 fn main() {
     let words: Vec<String> = std::env::args().skip(1).collect();
@@ -16,9 +34,10 @@ fn main() {
         "{:38} {:>11} {:>11} {:>8} {:>11}",
         "ns per call", "library", "Rust", "ratio", "of it test"
     );
-    let groups: [(&str, fn()); 3] = [
+    let groups: [(&str, fn()); 4] = [
         ("cells", cells::rows),
         ("layers", layers::rows),
+        ("aggregates", aggregates::rows),
         ("survey", survey::rows),
     ];
     for (name, rows) in groups {
