@@ -1,1 +1,3 @@
 pub mod Summary
+pub mod Written
+pub mod Decimals
