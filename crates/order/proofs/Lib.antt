@@ -1,0 +1,4 @@
+mod Runs
+mod Counting
+mod Merging
+mod Halves

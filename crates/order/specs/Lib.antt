@@ -1,2 +1,4 @@
 pub mod Sorted
+pub mod SortedLaws
 pub mod Groups
+pub mod GroupLaws

@@ -1,1 +1,4 @@
 pub mod Survey
+pub mod HeaderLaws
+pub mod FileLaws
+pub mod RoundTrips
