@@ -1,3 +1,4 @@
+mod Copies
 mod Halves
 mod Answers
 pub mod OneAnswer

@@ -86,11 +86,14 @@ module _ (w : ℕ) (l : List ℕ) where
       (λ (q : j < k). less-transitive (rowAt w l j .cell) (rowAt w l k .cell) (rowAt w l (suc k) .cell) (sound-less n e k j q (omega arith)) last)
       (eq-or-lt-of-le {n = j} {m = k} (omega arith))
 
-  -- a record that there is room for lies within the table
+  -- records that there is room for lie within the table
+  pub rows-within : (n : ℕ) → n ≤ roomFor w l → w * n ≤ length l
+  rows-within n h =
+      let room : n ≤ length l / w = omega (arith, min-le-right mostCells (length l / w)) in
+      omega (arith, mul-le-mul-left w room, mul-div-le (length l) w)
+
   pub row-within : (n i : ℕ) → n ≤ roomFor w l → i < n → w * i + w ≤ length l
-  row-within n i h b =
-      let room : suc i ≤ length l / w = omega (arith, min-le-right mostCells (length l / w)) in
-      omega (arith, mul-suc w i, mul-le-mul-left w room, mul-div-le (length l) w)
+  row-within n i h b = omega (arith, mul-suc w i, rows-within (suc i) (omega arith))
 
 -- ---- what is kept of a cell that was searched for
 

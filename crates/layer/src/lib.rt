@@ -7,10 +7,15 @@ ghost use lib.ListN.{length};
 ghost use Rattle.layer.specs.Layer.{roomFor, rowAt, rowsOf, ascending, isSound};
 ghost use Rattle.layer.specs.Places.{Wide, Stands};
 ghost use Rattle.layer.specs.Calls.{heldIn, ofValue, ofContains, ofFlags, countIn};
-ghost use Rattle.layer.specs.Changes.{emptyIn};
+ghost use Rattle.layer.specs.Changes.{changed, clearIn, listIn, emptyIn};
+
+pub mod flags;
+pub mod records;
+
 use cell::CellAnswer;
 use refusal::Cell;
 use refusal::Refusal;
+use refusal::Room;
 
 // Where a cell stands among the records, or where it would go.
 pub enum Place {
@@ -252,4 +257,72 @@ fn is_empty(table: &[u8], width: usize, count: usize) -> EmptyAnswer
     } else {
         EmptyAnswer::Refused(Refusal::BadLayer)
     }
+}
+
+// Whether a flag layer has no cells.
+pub fn is_empty_flags(table: &[u8], count: usize) -> EmptyAnswer
+    ensures { λ r. ⌜ r ≡ emptyIn 20 (now (table .entry)) count ⌝ }
+{
+    is_empty(table, 20, count)
+}
+
+// Whether a value layer has no cells.
+pub fn is_empty_values(table: &[u8], count: usize) -> EmptyAnswer
+    ensures { λ r. ⌜ r ≡ emptyIn 24 (now (table .entry)) count ⌝ }
+{
+    is_empty(table, 24, count)
+}
+
+// Zeros in every whole record within the limit; what is left of the table stays.
+fn clear(table: &mut [u8], width: usize)
+    requires { ⌜ Wide width ⌝ }
+    ensures { λ _. ⌜ now (table .exit) ≡ clearIn width (now (table .entry)) ⌝ }
+{
+    let room = room_for(table, width);
+    records::zero(table, 0, width * room);
+}
+
+// A flag layer without cells.
+pub fn clear_flags(table: &mut [u8])
+    ensures { λ _. ⌜ now (table .exit) ≡ clearIn 20 (now (table .entry)) ⌝ }
+{
+    clear(table, 20);
+}
+
+// A value layer without cells.
+pub fn clear_values(table: &mut [u8])
+    ensures { λ _. ⌜ now (table .exit) ≡ clearIn 24 (now (table .entry)) ⌝ }
+{
+    clear(table, 24);
+}
+
+// The records of a sound layer, at the front of what is lent for them, and how many they are.
+fn list(table: &[u8], width: usize, count: usize, out: &mut [u8]) -> CountAnswer
+    requires { ⌜ Wide width ⌝ }
+    ensures { λ r. ⌜ changed r (now (out .exit)) ≡ listIn width (now (table .entry)) count (now (out .entry)) ⌝ }
+{
+    if is_sound(table, width, count) {
+        let size = width * count;
+        if size > out.len() {
+            return CountAnswer::Refused(Refusal::NoRoom(Room::Output));
+        }
+        records::copy_front(out, table, size);
+        CountAnswer::Cells(count)
+    } else {
+        CountAnswer::Refused(Refusal::BadLayer)
+    }
+}
+
+// The records of a flag layer.
+pub fn list_flags(table: &[u8], count: usize, out: &mut [u8]) -> CountAnswer
+    ensures { λ r. ⌜ changed r (now (out .exit)) ≡ listIn 20 (now (table .entry)) count (now (out .entry)) ⌝ }
+{
+    list(table, 20, count, out)
+}
+
+// The records of a value layer.
+pub fn list_values(table: &[u8], count: usize, out: &mut [u8]) -> CountAnswer
+    ensures { λ r. ⌜ changed r (now (out .exit)) ≡ listIn 24 (now (table .entry)) count (now (out .entry)) ⌝ }
+{
+    list(table, 24, count, out)
 }
