@@ -23,6 +23,20 @@ use Rattle.layer.proofs.count_flags.Kinds as count-flags-kinds
 use Rattle.layer.proofs.count_flags.Reads as count-flags
 use Rattle.layer.proofs.count_values.Kinds as count-values-kinds
 use Rattle.layer.proofs.count_values.Reads as count-values
+use Rattle.layer.proofs.moves.put_record.Kinds as put-record-kinds
+use Rattle.layer.proofs.moves.put_record.Reads as put-record
+use Rattle.layer.proofs.moves.open_record.Kinds as open-record-kinds
+use Rattle.layer.proofs.moves.open_record.Reads as open-record
+use Rattle.layer.proofs.moves.close_record.Kinds as close-record-kinds
+use Rattle.layer.proofs.moves.close_record.Reads as close-record
+use Rattle.layer.proofs.changes.set_flags.Kinds as set-flags-kinds
+use Rattle.layer.proofs.changes.set_flags.Reads as set-flags
+use Rattle.layer.proofs.changes.set_value.Kinds as set-value-kinds
+use Rattle.layer.proofs.changes.set_value.Reads as set-value
+use Rattle.layer.proofs.changes.remove_flags.Kinds as remove-flags-kinds
+use Rattle.layer.proofs.changes.remove_flags.Reads as remove-flags
+use Rattle.layer.proofs.changes.remove_value.Kinds as remove-value-kinds
+use Rattle.layer.proofs.changes.remove_value.Reads as remove-value
 use Rattle.layer.proofs.is_empty_flags.Kinds as is-empty-flags-kinds
 use Rattle.layer.proofs.is_empty_flags.Reads as is-empty-flags
 use Rattle.layer.proofs.is_empty_values.Kinds as is-empty-values-kinds
@@ -86,6 +100,41 @@ count-flags-one κs a z z′ e e′ p q = p ∙ sym q
 
 pub count-values-one : OneAnswer 1 count-values-kinds.ps count-values-kinds.r count-values.Post
 count-values-one κs a z z′ e e′ p q = p ∙ sym q
+
+-- ---- calls that change a table
+
+pub put-record-exit : OneExit 1 put-record-kinds.ps put-record-kinds.r put-record.Post
+put-record-exit κs a z z′ last last′ p q = λ i. (at-last (a .0) ((p ∙ sym q) i), a .1)
+
+pub open-record-exit : OneExit 1 open-record-kinds.ps open-record-kinds.r open-record.Post
+open-record-exit κs a z z′ last last′ p q = λ i. (at-last (a .0) ((p ∙ sym q) i), a .1)
+
+pub close-record-exit : OneExit 1 close-record-kinds.ps close-record-kinds.r close-record.Post
+close-record-exit κs a z z′ last last′ p q = λ i. (at-last (a .0) ((p ∙ sym q) i), a .1)
+
+pub set-flags-one : OneAnswer 2 set-flags-kinds.ps set-flags-kinds.r set-flags.Post
+set-flags-one κs a z z′ e e′ p q = same-said p q
+
+pub set-flags-exit : OneExit 2 set-flags-kinds.ps set-flags-kinds.r set-flags.Post
+set-flags-exit κs a z z′ last last′ p q = λ i. (at-last (a .0) (same-bytes p q i), a .1)
+
+pub set-value-one : OneAnswer 2 set-value-kinds.ps set-value-kinds.r set-value.Post
+set-value-one κs a z z′ e e′ p q = same-said p q
+
+pub set-value-exit : OneExit 2 set-value-kinds.ps set-value-kinds.r set-value.Post
+set-value-exit κs a z z′ last last′ p q = λ i. (at-last (a .0) (same-bytes p q i), a .1)
+
+pub remove-flags-one : OneAnswer 2 remove-flags-kinds.ps remove-flags-kinds.r remove-flags.Post
+remove-flags-one κs a z z′ e e′ p q = same-said p q
+
+pub remove-flags-exit : OneExit 2 remove-flags-kinds.ps remove-flags-kinds.r remove-flags.Post
+remove-flags-exit κs a z z′ last last′ p q = λ i. (at-last (a .0) (same-bytes p q i), a .1)
+
+pub remove-value-one : OneAnswer 2 remove-value-kinds.ps remove-value-kinds.r remove-value.Post
+remove-value-one κs a z z′ e e′ p q = same-said p q
+
+pub remove-value-exit : OneExit 2 remove-value-kinds.ps remove-value-kinds.r remove-value.Post
+remove-value-exit κs a z z′ last last′ p q = λ i. (at-last (a .0) (same-bytes p q i), a .1)
 
 pub is-empty-flags-one : OneAnswer 1 is-empty-flags-kinds.ps is-empty-flags-kinds.r is-empty-flags.Post
 is-empty-flags-one κs a z z′ e e′ p q = p ∙ sym q

@@ -10,7 +10,7 @@ use lib.ListN.{length, take, drop, length-append, length-drop, take-append-drop}
 use lib.Seq.{drop-at, drop-drop, take-add}
 use Rattle.refusal.specs.declared.Cell.{Cell}
 use Rattle.words.specs.Word.{big, word, bytesOf, Bytes}
-use Rattle.words.specs.Laws.{length-bytesOf, word-bytesOf, word-append-left, word-append-right, word-drop, word-lt, bytesOf-part, bytes-drop}
+use Rattle.words.specs.Laws.{length-bytesOf, word-bytesOf, word-append-left, word-append-right, word-drop, word-lt, bytesOf-part}
 use Rattle.cell.specs.Cell.{sameCell, lessCell}
 use Rattle.cell.specs.Bytes.{cellAt, cellBytes}
 use Rattle.cell.specs.Stored.{length-cellBytes}
@@ -27,6 +27,11 @@ pub record Storable (w : ℕ) (r : Row) : Type 0 where
 pub data AllStorable (w : ℕ) : List Row → Type 0 where
   no-rows : AllStorable w []
   one-more : {r : Row} {rs : List Row} → Storable w r → AllStorable w rs → AllStorable w (r ∷ rs)
+
+pub flatMap-append {ℓ ℓ′} : {A : Type ℓ} {B : Type ℓ′} (f : A → List B) (l m : List A) → flatMap f (l ++ m) ≡ flatMap f l ++ flatMap f m
+unfolding flatMap
+flatMap-append f [] m = refl
+flatMap-append f (a ∷ l) m = ap (λ r. f a ++ r) (flatMap-append f l m) ∙ sym (append-assoc (f a) (flatMap f l) (flatMap f m))
 
 -- ---- one row
 
@@ -63,14 +68,25 @@ row-back w r m s =
     λ i. record { cell = record { high = at-high i; low = at-low i }; kept = at-kept i }
 
 -- and the bytes of the row that was read are those that stand there
-bytes-back : (w : ℕ) (l : List ℕ) → 16 ≤ w → w ≤ length l → Bytes l → rowBytes w (rowAt w l 0) ≡ take w l
+pub row-part : (w : ℕ) (l : List ℕ) (i : ℕ) → 16 ≤ w → w * i + w ≤ length l → Bytes l → rowBytes w (rowAt w l i) ≡ take w (drop (w * i) l)
 unfolding rowAt rowBytes
-bytes-back w l h f b =
+row-part w l i h f b =
     let size : 16 + (w - 16) ≡ w = omega (arith, h) in
-    ap (λ (p : ℕ). cellBytes (cellAt l p) ++ bytesOf big (w - 16) (word big (w - 16) l (p + 16))) (mul-zero w)
-    ∙ ap₂ _++_ (cell-bytes-part l 0 (omega arith) b) (bytesOf-part big (w - 16) l 16 (omega arith) b)
-    ∙ sym (take-add 16 (w - 16) l)
-    ∙ ap (λ (k : ℕ). take k l) size
+    ap₂ _++_ (cell-bytes-part l (w * i) (omega arith) b) (bytesOf-part big (w - 16) l (w * i + 16) (omega arith) b ∙ ap (take (w - 16)) (sym (drop-drop 16 (w * i) l)))
+    ∙ sym (take-add 16 (w - 16) (drop (w * i) l))
+    ∙ ap (λ (k : ℕ). take k (drop (w * i) l)) size
+
+-- and so of n rows
+pub rows-part : (w : ℕ) (l : List ℕ) (i n : ℕ) → 16 ≤ w → w * i + w * n ≤ length l → Bytes l → flatMap (rowBytes w) (rowsFrom w l i n) ≡ take (w * n) (drop (w * i) l)
+unfolding rowsFrom flatMap
+rows-part w l i zero h f b = sym (ap (λ (k : ℕ). take k (drop (w * i) l)) (mul-zero w))
+rows-part w l i (suc n) h f b =
+    let more = mul-suc w n in
+    let next : w * suc i ≡ w * i + w = omega (arith, mul-suc w i) in
+    let size : w + w * n ≡ w * suc n = omega (arith, more) in
+    ap₂ _++_ (row-part w l i h (omega (arith, more)) b) (rows-part w l (suc i) n h (omega (arith, more, next)) b ∙ ap (take (w * n)) (ap (λ (k : ℕ). drop k l) next ∙ sym (drop-drop w (w * i) l)))
+    ∙ sym (take-add w (w * n) (drop (w * i) l))
+    ∙ ap (λ (k : ℕ). take k (drop (w * i) l)) size
 
 -- ---- the first row and the later ones
 
@@ -129,16 +145,10 @@ rows-laid w (r ∷ rs) l h (one-more s a) =
 
 -- to lay the rows that were read changes nothing
 pub laid-rows : (w : ℕ) (l : List ℕ) (n : ℕ) → 16 ≤ w → w * n ≤ length l → Bytes l → laid w (rowsOf w l n) l ≡ l
-unfolding rowsOf rowsFrom laid flatMap
-laid-rows w l zero h f b = ap (λ (k : ℕ). drop k l) (mul-zero w)
-laid-rows w l (suc n) h f b =
-    let step = mul-suc w n in
-    let dropped = length-drop w l in
-    laid-cons w (rowAt w l 0) (rowsFrom w l 1 n) l
-    ∙ ap₂ _++_ (bytes-back w l h (omega (arith, step, f)) b)
-    (ap (λ (rs : List Row). laid w rs (drop w l)) (rows-next w l 0 n)
-    ∙ laid-rows w (drop w l) n h (omega (arith, step, dropped, f)) (bytes-drop w l b))
-    ∙ take-append-drop w l
+unfolding rowsOf laid
+laid-rows w l n h f b =
+    ap₂ _++_ (rows-part w l 0 n h (omega (arith, mul-zero w)) b ∙ ap (λ (k : ℕ). take (w * n) (drop k l)) (mul-zero w)) (ap (λ (k : ℕ). drop (w * k) l) (length-rowsFrom w l 0 n))
+    ∙ take-append-drop (w * n) l
 
 -- ---- rows that can be stored
 

@@ -30,6 +30,10 @@ pub record Changed (A : Type 0) : Type 0 where
 abbrev pub changed : {A : Type 0} → A → List ℕ → Changed A
 changed a l = record { said = a; bytes = l }
 
+-- the same, said in another way
+abbrev pub saying : {A B : Type 0} → (A → B) → Changed A → Changed B
+saying f a = changed (f (a .said)) (a .bytes)
+
 -- these rows in the first k records of the table, and zeros in those of the k that are left; other bytes stay
 unfoldable pub refilled : ℕ → ℕ → List Row → List ℕ → List ℕ
 unfolding rowBytes

@@ -75,12 +75,16 @@ module _ (w : ℕ) (l : List ℕ) where
   unfolding isSound
   sound-room n e = leb-true n (roomFor w l) (both (leb n (roomFor w l)) (ascending (rowsOf w l n)) e .0)
 
-  -- and they ascend: of any two the earlier one is below the other
-  pub sound-less : (n : ℕ) → isSound w l n ≡ true → (k j : ℕ) → j < k → k < n → lessCell (rowAt w l j .cell) (rowAt w l k .cell) ≡ true
+  -- and they ascend
+  pub sound-ascending : (n : ℕ) → isSound w l n ≡ true → ascending (rowsOf w l n) ≡ true
   unfolding isSound
+  sound-ascending n e = both (leb n (roomFor w l)) (ascending (rowsOf w l n)) e .1
+
+  -- of any two the earlier one is below the other
+  pub sound-less : (n : ℕ) → isSound w l n ≡ true → (k j : ℕ) → j < k → k < n → lessCell (rowAt w l j .cell) (rowAt w l k .cell) ≡ true
   sound-less n e zero j h b = absurd (omega arith)
   sound-less n e (suc k) j h b =
-      let last = ascended n (both (leb n (roomFor w l)) (ascending (rowsOf w l n)) e .1) k b in
+      let last = ascended n (sound-ascending n e) k b in
       ⊎-elim
       (λ (q : j ≡ k). subst (λ (m : ℕ). lessCell (rowAt w l m .cell) (rowAt w l (suc k) .cell) ≡ true) (sym q) last)
       (λ (q : j < k). less-transitive (rowAt w l j .cell) (rowAt w l k .cell) (rowAt w l (suc k) .cell) (sound-less n e k j q (omega arith)) last)

@@ -9,7 +9,9 @@ ghost use Rattle.layer.specs.Places.{Wide, Stands};
 ghost use Rattle.layer.specs.Calls.{heldIn, ofValue, ofContains, ofFlags, countIn};
 ghost use Rattle.layer.specs.Changes.{changed, clearIn, listIn, emptyIn};
 
+pub mod changes;
 pub mod flags;
+pub mod moves;
 pub mod records;
 
 use cell::CellAnswer;

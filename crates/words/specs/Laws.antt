@@ -7,7 +7,7 @@ use Prim.Native.Nat.{ℕ, zero, suc, _+_, _-_, _*_, _/_, _%_, _^_, _≤_, _<_}
 use native.Mathlib.Nat.{min-le-left, lt-of-lt-of-le, pow-le-pow-right, pow-suc, pow-succ', zero-add, suc-add, div-one, div-div-eq-div-mul, div-lt-iff-lt-mul, mod-add-div, mul-assoc, add-zero, add-suc, add-comm}
 use native.Mathlib.Decide.{decLe}
 use native.Mathlib.Omega.{arith}
-use lib.ListN.{length, getD, set, take, drop, length-take, length-drop, length-reverse, take-append-drop}
+use lib.ListN.{length, getD, set, take, drop, replicate, length-take, length-drop, length-reverse, take-append-drop}
 use lib.Seq.{take-all, getD-take, sets, length-sets, sets-eq, length-take-le, take-set-le, drop-set-lt, drop-set-add, getD-set-other, getD-drop, take-at, drop-at, take-take, take-add, drop-drop, take-append-le, drop-append-le, drop-append-add}
 use Rattle.words.specs.Word.{Order, big, little, lowDigits, number, ordered, bytesOf, word, stored, Bytes, Apart}
 
@@ -104,6 +104,14 @@ bytes-take (suc n) (x ∷ l) b i = bytes-cons x (take n l) (b 0) (bytes-take n l
 
 pub bytes-drop : (n : ℕ) (l : List ℕ) → Bytes l → Bytes (drop n l)
 bytes-drop n l b i = rw getD-drop (b (n + i))
+
+pub bytes-append : (l m : List ℕ) → Bytes l → Bytes m → Bytes (l ++ m)
+bytes-append [] m b c = c
+bytes-append (x ∷ l) m b c = bytes-cons x (l ++ m) (b 0) (bytes-append l m (λ i. b (suc i)) c)
+
+pub bytes-zeros : (n : ℕ) → Bytes (replicate n 0)
+bytes-zeros zero i = omega arith
+bytes-zeros (suc n) i = bytes-cons 0 (replicate n 0) (omega arith) (bytes-zeros n) i
 
 bytes-set : (l : List ℕ) (i a : ℕ) → a < 256 → Bytes l → Bytes (set l i a)
 bytes-set [] i a h b = b
