@@ -2,3 +2,4 @@ pub mod Survey
 pub mod HeaderLaws
 pub mod FileLaws
 pub mod RoundTrips
+pub mod Gathered
