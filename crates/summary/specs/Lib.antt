@@ -1,5 +1,5 @@
 pub mod Summary
 pub mod Written
 pub mod Decimals
-pub mod HeaderCases
+pub mod Reported
 pub mod Longer
