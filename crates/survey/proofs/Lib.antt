@@ -1,3 +1,5 @@
 pub mod Front
 pub mod Whole
 pub mod Keeping
+pub mod Numbered
+pub mod Replaced
