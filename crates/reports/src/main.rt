@@ -1,11 +1,13 @@
 // Prints the name of each file that its arguments name, and what the report program prints of it. tests/report_files.py makes the files and works out what must be printed.
 use libc::STDOUT_FILENO;
 
-// The report on one file, below its name.
-fn print_report(path: &[u8]) {
-    let opened = os::open_read(path);
+// The report on the file that an argument names, below its name.
+fn print_report(argument: usize) {
+    let mut path = io::buffer();
+    let length = os::arg(argument, &mut path);
+    let opened = os::open_read(&path[..length]);
     if opened < 0 {
-        os::fail(path);
+        os::fail(&path[..length]);
         return;
     }
     let mut file = io::large_buffer();
@@ -13,15 +15,13 @@ fn print_report(path: &[u8]) {
     libc::close(opened);
     let mut text = [0u8; 96];
     let end = summary::report(&file[..size], &mut text);
-    io::write_all(STDOUT_FILENO, path);
+    io::write_all(STDOUT_FILENO, &path[..length]);
     io::write_all(STDOUT_FILENO, b"\n");
     io::write_all(STDOUT_FILENO, &text[..end]);
 }
 
 fn main() {
-    let mut path = io::buffer();
     for i in 1..os::arg_count() {
-        let length = os::arg(i, &mut path);
-        print_report(&path[..length]);
+        print_report(i);
     }
 }
