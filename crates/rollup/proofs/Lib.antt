@@ -1,0 +1,5 @@
+mod Raising
+mod Passing
+mod Ranking
+mod RunByRun
+mod Storing

@@ -1,1 +1,2 @@
 pub mod Rollup
+pub mod Runs
