@@ -5,3 +5,5 @@ pub mod Bits
 pub mod Bytes
 pub mod Stored
 pub mod BytesLaws
+pub mod Lists
+pub mod ListLaws

@@ -8,7 +8,8 @@ use lib.Dec.{leb, ltb, eqb}
 use borrow.Author.Tests.{lt-ltb, le-ltb, le-leb, lt-leb, ltb-true, ltb-false, leb-true, leb-false, eq-eqb, eqb-true, eqb-false}
 use lib.Ieee.{binary64, below, nanBits}
 use lib.Ieee.Bits.{nanBits-above}
-use Rattle.float.specs.TotalOrder.{negative, quiet, payload, equals, numbers, classes, nans, totalOrder, keyOf}
+use Rattle.float.specs.TotalOrder.{negative, quiet, payload, equals, numbers, classes, nans, totalOrder, keyOf, bitsOfKey}
+use Rattle.float.specs.Laws.{key-bits}
 use Rattle.float.proofs.Sizes.{unsigned, numbers-order}
 
 -- ---- both orders, on a sign and the rest of the pattern
@@ -216,11 +217,4 @@ key-is-total-order a b A B = total-order-is a b A B ∙ sym (keys-are a b A B)
 
 -- No two patterns share a key.
 pub key-injective : (a b : ℕ) → a < 2 ^ 64 → b < 2 ^ 64 → keyOf a ≡ keyOf b → a ≡ b
-unfolding keyOf
-key-injective a b A B e = go (ltb a 9223372036854775808) (ltb b 9223372036854775808) (ltb-true a 9223372036854775808) (ltb-false a 9223372036854775808) (ltb-true b 9223372036854775808) (ltb-false b 9223372036854775808) e
-  where
-    go : (x y : Bool) → (x ≡ true → a < 9223372036854775808) → (x ≡ false → 9223372036854775808 ≤ a) → (y ≡ true → b < 9223372036854775808) → (y ≡ false → 9223372036854775808 ≤ b) → cond x (a + 9223372036854775808) (18446744073709551615 - a) ≡ cond y (b + 9223372036854775808) (18446744073709551615 - b) → a ≡ b
-    go true true f g h k e = omega arith
-    go true false f g h k e = let u = f refl in let v = k refl in omega arith
-    go false true f g h k e = let u = g refl in let v = h refl in omega arith
-    go false false f g h k e = let u = g refl in let v = k refl in omega arith
+key-injective a b A B e = sym (key-bits a A) ∙ ap bitsOfKey e ∙ key-bits b B

@@ -1,17 +1,18 @@
--- Laws of NaNs, of comparing and of rounding that other crates rest on too. Assumes nothing.
+-- Laws of NaNs, of comparing, of rounding and of keys that other crates rest on too. Assumes nothing.
 use mathlib.Core.Path.{_≡_, refl, sym, ap, _∙_, subst}
 use mathlib.Core.Logic.{inl, inr}
 use mathlib.Core.Bool.{Bool, true, false, cond, _&&_, _||_, false≢true}
-use Prim.Native.Nat.{ℕ, zero, suc, _+_, _*_, _/_, _%_, _^_, _≤_, _<_, min}
+use Prim.Native.Nat.{ℕ, zero, suc, _+_, _-_, _*_, _/_, _%_, _^_, _≤_, _<_, min}
 use native.Mathlib.Nat.{le-of-lt, eq-or-lt-of-le, mul-assoc, mul-left-comm, mul-pos, suc-mul, div-lt-iff-lt-mul}
 use native.Mathlib.Omega.{arith}
 use lib.IntN.{ℤ, pos, negℤ}
 use lib.Dec.{T, leb, ltb, eqb, ltb→lt, lt→ltb, lit<}
-use borrow.Author.Tests.{eq-eqb, ltb-true, lt-ltb}
+use borrow.Author.Tests.{eq-eqb, ltb-true, ltb-false, lt-ltb, le-ltb}
 use lib.Ieee.{Float, nan, inf, fin, Format, binary64, prec, emax, low, up, down, odd, units, round, fits, toUnsigned, eq, lt, ofInt, ofBits, nanBits, isNan}
 use lib.Ieee.Bits.{nanBits-is}
 use lib.Ieee.Fits.{round-is, down-pos, and-l, and-r}
 use Rattle.float.specs.Round.{wholeOf, roundAway, wholeAway}
+use Rattle.float.specs.TotalOrder.{keyOf, bitsOfKey}
 
 -- ---- tests
 
@@ -145,3 +146,32 @@ pub away-is-whole : (s : Bool) (m : ℕ) (e : ℤ) → eq (roundAway (fin s m e)
 unfolding roundAway wholeAway
 away-is-whole false m e = positive (wholeOf m e)
 away-is-whole true m e = negative (wholeOf m e)
+
+-- ---- keys and patterns make each other again
+
+-- what holds of either branch of a test of two numbers
+pub by-less : {A : Type 0} (P : A → Type 0) (a b : ℕ) (x y : A) → (a < b → P x) → (b ≤ a → P y) → P (cond (ltb a b) x y)
+by-less P a b x y f g = go (ltb a b) (ltb-true a b) (ltb-false a b)
+  where
+    go : (t : Bool) → (t ≡ true → a < b) → (t ≡ false → b ≤ a) → P (cond t x y)
+    go true h k = f (h refl)
+    go false h k = g (k refl)
+
+pub key-bits : (b : ℕ) → b < 2 ^ 64 → bitsOfKey (keyOf b) ≡ b
+unfolding keyOf bitsOfKey
+key-bits b h =
+    by-less (λ (k : ℕ). bitsOfKey k ≡ b) b 9223372036854775808 (b + 9223372036854775808) (18446744073709551615 - b)
+    (λ low. rw (le-ltb (b + 9223372036854775808) 9223372036854775808 (omega arith)) (omega arith))
+    (λ high. rw (lt-ltb (18446744073709551615 - b) 9223372036854775808 (omega arith)) (omega arith))
+
+pub bits-key : (k : ℕ) → k < 2 ^ 64 → keyOf (bitsOfKey k) ≡ k
+unfolding keyOf bitsOfKey
+bits-key k h =
+    by-less (λ (b : ℕ). keyOf b ≡ k) k 9223372036854775808 (18446744073709551615 - k) (k - 9223372036854775808)
+    (λ low. rw (le-ltb (18446744073709551615 - k) 9223372036854775808 (omega arith)) (omega arith))
+    (λ high. rw (lt-ltb (k - 9223372036854775808) 9223372036854775808 (omega arith)) (omega arith))
+
+-- a key has 64 bits
+pub key-lt : (b : ℕ) → keyOf b < 2 ^ 64
+unfolding keyOf
+key-lt b = by-less (λ (k : ℕ). k < 2 ^ 64) b 9223372036854775808 (b + 9223372036854775808) (18446744073709551615 - b) (λ low. omega arith) (λ high. omega arith)

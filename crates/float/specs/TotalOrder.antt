@@ -44,3 +44,7 @@ totalOrder a b =
 -- A positive pattern goes to the upper half, and a negative one, turned around, to the lower.
 unfoldable pub keyOf : ℕ → ℕ
 keyOf b = cond (ltb b (2 ^ 63)) (b + 2 ^ 63) (2 ^ 64 - 1 - b)
+
+-- The pattern that has a key.
+unfoldable pub bitsOfKey : ℕ → ℕ
+bitsOfKey k = cond (ltb k (2 ^ 63)) (2 ^ 64 - 1 - k) (k - 2 ^ 63)

@@ -4,7 +4,7 @@ ghost use mathlib.Core.Bool.{true, false};
 ghost use lib.IntN.{pos};
 ghost use lib.Ieee.{binary64, fin, nanBits, ofBits, toBits, add, mul, lt, le};
 ghost use Rattle.float.specs.Round.{wholeSize, roundAway, wholeAway};
-ghost use Rattle.float.specs.TotalOrder.{keyOf};
+ghost use Rattle.float.specs.TotalOrder.{keyOf, bitsOfKey};
 
 // The one pattern that is written for a NaN.
 const NAN: u64 = 0x7FF8_0000_0000_0000;
@@ -22,6 +22,16 @@ pub fn value(bits: u64) -> f64
     ensures { λ r. ⌜ r ≡ ofBits binary64 bits ⌝ }
 {
     f64::from_bits(bits)
+}
+
+// The number of any pattern: a NaN's is a NaN.
+pub fn number(bits: u64) -> f64
+    ensures { λ r. ⌜ r ≡ ofBits binary64 bits ⌝ }
+{
+    if is_nan(bits) {
+        return 0.0 / 0.0;
+    }
+    value(bits)
 }
 
 // The pattern of a number.
@@ -135,5 +145,16 @@ pub fn total_order_key(bits: u64) -> u64
         bits + 0x8000_0000_0000_0000
     } else {
         0xFFFF_FFFF_FFFF_FFFF - bits
+    }
+}
+
+// The pattern of a key.
+pub fn key_bits(key: u64) -> u64
+    ensures { λ r. ⌜ r ≡ bitsOfKey key ⌝ }
+{
+    if key < 0x8000_0000_0000_0000 {
+        0xFFFF_FFFF_FFFF_FFFF - key
+    } else {
+        key - 0x8000_0000_0000_0000
     }
 }

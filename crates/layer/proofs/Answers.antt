@@ -1,24 +1,19 @@
 -- What a call on a layer answers, by what its cell's bytes, its table and the search turned out to be. Assumes nothing.
-use mathlib.Core.Path.{_≡_, refl, sym, ap, subst, _∙_}
+use mathlib.Core.Path.{_≡_, sym, ap, subst, _∙_}
 use mathlib.Core.Bool.{Bool, true, false, cond}
 use mathlib.Core.List.{List}
-use Prim.Native.Nat.{ℕ, zero, suc, _+_, _*_, _≤_, _<_}
-use native.Mathlib.Nat.{mul-suc}
-use native.Mathlib.Numerals.{add-one}
-use native.Mathlib.Omega.{arith}
-use lib.ListN.{length}
+use Prim.Native.Nat.{ℕ, _<_}
 use Rattle.refusal.specs.declared.Cell.{Cell}
 use Rattle.refusal.specs.declared.Refusal.the-variants.{BadLayer}
-use Rattle.words.specs.Word.{Bytes, big}
-use Rattle.words.specs.Laws.{word-lt}
+use Rattle.words.specs.Word.{Bytes}
 use Rattle.cell.specs.declared.CellAnswer.{CellAnswer}
 use Rattle.cell.specs.declared.CellAnswer.the-variants.{Is}
 use Rattle.cell.specs.declared.CellAnswer.the-variants as cell
-use Rattle.cell.specs.Cell.{sameCell}
 use Rattle.cell.specs.Bytes.{fromBytesOf}
-use Rattle.layer.specs.Layer.{Held, nothing, held, rowAt, heldOf, rowsFrom, rowsOf, isSound}
+use Rattle.layer.specs.Layer.{Held, nothing, held, rowAt, heldOf, rowsOf, isSound}
 use Rattle.layer.specs.Places.{Stands}
-use Rattle.layer.specs.Laws.{row-kept, sound-room, row-within, find-is-held, find-is-nothing}
+use Rattle.layer.specs.Laws.{found-held, missing-held}
+use Rattle.layer.specs.Bytes.{Small, rows-storable, held-small}
 use Rattle.layer.specs.declared.Place.{Place}
 use Rattle.layer.specs.declared.Place.the-variants.{At, Before}
 use Rattle.layer.specs.declared.HeldAnswer.{HeldAnswer}
@@ -38,57 +33,31 @@ module _ (w : ℕ) (l : List ℕ) (n : ℕ) where
   on-sound c h e q = ap ofHeld (sym q) ∙ sym (ap (λ (t : Bool). cond t (ofHeld (heldOf c (rowsOf w l n))) (Refused BadLayer)) e)
 
   pub found : (c : Cell) (i : ℕ) {k : ℕ} {p : Place} → isSound w l n ≡ true → Stands w l n c p → p ≡ At i → k ≡ rowAt w l i .kept → Kept k ≡ heldBy (Is c) w l n
-  found c i e s q r = ap Kept r ∙ on-sound c _ e (find-is-held w l c n i e (subst (Stands w l n c) q s))
+  found c i {k} e s q r = on-sound c (held k) e (found-held w l c n i e s q r)
 
   pub not-found : (c : Cell) (i : ℕ) {p : Place} → isSound w l n ≡ true → Stands w l n c p → p ≡ Before i → Nothing ≡ heldBy (Is c) w l n
-  not-found c i e s q = on-sound c _ e (find-is-nothing w l c n i (subst (Stands w l n c) q s))
-
-  -- a record that was found lies within the table
-  at-within : (c : Cell) (i : ℕ) → isSound w l n ≡ true → Stands w l n c (At i) → w * (i + 1) ≤ length l
-  unfolding Stands
-  at-within c i e s =
-      let q : w * (i + 1) ≡ w * suc i = ap (λ (j : ℕ). w * j) (add-one i) in
-      omega (arith, q, mul-suc w i, row-within w l n i (sound-room w l n e) (s .within))
-
-  pub found-within : (c : Cell) (i : ℕ) {p : Place} → isSound w l n ≡ true → Stands w l n c p → p ≡ At i → w * (i + 1) ≤ length l
-  found-within c i e s q = at-within c i e (subst (Stands w l n c) q s)
+  not-found c i e s q = on-sound c nothing e (missing-held w l c n i s q)
 
 -- ---- flags: what a record of 20 bytes keeps is below 2^32
-
-abbrev Low : Held → Type 0
-Low nothing = Unit {0}
-Low (held k) = k < 4294967296
 
 abbrev LowAnswer : HeldAnswer → Type 0
 LowAnswer (Kept k) = k < 4294967296
 LowAnswer Nothing = Unit {0}
 LowAnswer (Refused r) = Unit {0}
 
-by-test : (t : Bool) (k : ℕ) (h : Held) → k < 4294967296 → Low h → Low (cond t (held k) h)
-by-test true k h p q = p
-by-test false k h p q = q
-
-of-held-low : (h : Held) → Low h → LowAnswer (ofHeld h)
+of-held-low : (h : Held) → Small 20 h → LowAnswer (ofHeld h)
 of-held-low nothing p = tt
 of-held-low (held k) p = p
 
-by-soundness : (t : Bool) (h : Held) → Low h → LowAnswer (cond t (ofHeld h) (Refused BadLayer))
+by-soundness : (t : Bool) (h : Held) → Small 20 h → LowAnswer (cond t (ofHeld h) (Refused BadLayer))
 by-soundness true h p = of-held-low h p
 by-soundness false h p = tt
 
 module _ (l : List ℕ) (bytes : Bytes l) where
-  row-low : (i : ℕ) → rowAt 20 l i .kept < 4294967296
-  row-low i = subst (λ (k : ℕ). k < 4294967296) (row-kept 20 4 l i refl) (word-lt big 4 l (20 * i + 16) bytes)
-
-  rows-low : (c : Cell) (n i : ℕ) → Low (heldOf c (rowsFrom 20 l i n))
-  unfolding heldOf rowsFrom
-  rows-low c zero i = tt
-  rows-low c (suc n) i = by-test (sameCell (rowAt 20 l i .cell) c) (rowAt 20 l i .kept) (heldOf c (rowsFrom 20 l (suc i) n)) (row-low i) (rows-low c n (suc i))
-
   by-cell : (a : CellAnswer) (n : ℕ) → LowAnswer (heldBy a 20 l n)
   unfolding rowsOf
   by-cell (cell.Refused r) n = tt
-  by-cell (cell.Is c) n = by-soundness (isSound 20 l n) (heldOf c (rowsOf 20 l n)) (rows-low c n 0)
+  by-cell (cell.Is c) n = by-soundness (isSound 20 l n) (heldOf c (rowsOf 20 l n)) (held-small 20 c (rowsOf 20 l n) (rows-storable 20 l 0 n bytes))
 
   pub flags-low : (n : ℕ) (m : List ℕ) {a : HeldAnswer} {k : ℕ} → a ≡ heldIn 20 l n m → a ≡ Kept k → k < 4294967296
   unfolding heldIn

@@ -16,7 +16,7 @@ use Rattle.cell.specs.Bytes.{cellAt, cellBytes}
 use Rattle.cell.specs.Stored.{length-cellBytes}
 use Rattle.cell.specs.BytesLaws.{cell-bytes-part}
 use Rattle.cell.specs.Laws.{Words}
-use Rattle.layer.specs.Layer.{Row, rowAt, rowsFrom, rowsOf, rowBytes, laid, withRow, withoutCell}
+use Rattle.layer.specs.Layer.{Row, Held, nothing, held, heldOf, rowAt, rowsFrom, rowsOf, rowBytes, laid, withRow, withoutCell}
 
 -- a row that a record of w bytes can hold
 pub record Storable (w : ℕ) (r : Row) : Type 0 where
@@ -88,6 +88,10 @@ rows-part w l i (suc n) h f b =
     ∙ sym (take-add w (w * n) (drop (w * i) l))
     ∙ ap (λ (k : ℕ). take k (drop (w * i) l)) size
 
+pub bytes-of-rows : (w : ℕ) (l : List ℕ) (n : ℕ) → 16 ≤ w → w * n ≤ length l → Bytes l → flatMap (rowBytes w) (rowsOf w l n) ≡ take (w * n) l
+unfolding rowsOf
+bytes-of-rows w l n h f b = rows-part w l 0 n h (omega (arith, mul-zero w)) b ∙ ap (λ (k : ℕ). take (w * n) (drop k l)) (mul-zero w)
+
 -- ---- the first row and the later ones
 
 -- the row at the next index is that of the table without its first record
@@ -147,7 +151,7 @@ rows-laid w (r ∷ rs) l h (one-more s a) =
 pub laid-rows : (w : ℕ) (l : List ℕ) (n : ℕ) → 16 ≤ w → w * n ≤ length l → Bytes l → laid w (rowsOf w l n) l ≡ l
 unfolding rowsOf laid
 laid-rows w l n h f b =
-    ap₂ _++_ (rows-part w l 0 n h (omega (arith, mul-zero w)) b ∙ ap (λ (k : ℕ). take (w * n) (drop k l)) (mul-zero w)) (ap (λ (k : ℕ). drop (w * k) l) (length-rowsFrom w l 0 n))
+    ap₂ _++_ (bytes-of-rows w l n h f b) (ap (λ (k : ℕ). drop (w * k) l) (length-rowsFrom w l 0 n))
     ∙ take-append-drop (w * n) l
 
 -- ---- rows that can be stored
@@ -186,3 +190,19 @@ pub without-storable : (w : ℕ) (c : Cell) (rs : List Row) → AllStorable w rs
 unfolding withoutCell
 without-storable w c [] no-rows = no-rows
 without-storable w c (r ∷ rs) (one-more g a) = remove-storable w c r rs (sameCell (r .cell) c) g a (without-storable w c rs a)
+
+-- ---- what is kept of a cell
+
+-- a record of w bytes has room for it
+abbrev pub Small : ℕ → Held → Type 0
+Small w nothing = Unit {0}
+Small w (held k) = k < 256 ^ (w - 16)
+
+either-small : (w : ℕ) (same : Bool) (k : ℕ) (h : Held) → k < 256 ^ (w - 16) → Small w h → Small w (cond same (held k) h)
+either-small w true k h p q = p
+either-small w false k h p q = q
+
+pub held-small : (w : ℕ) (c : Cell) (rs : List Row) → AllStorable w rs → Small w (heldOf c rs)
+unfolding heldOf
+held-small w c [] no-rows = tt
+held-small w c (r ∷ rs) (one-more s a) = either-small w (sameCell (r .cell) c) (r .kept) (heldOf c rs) (s .small) (held-small w c rs a)

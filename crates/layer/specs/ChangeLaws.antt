@@ -18,7 +18,7 @@ use Rattle.cell.specs.Cell.{sameCell, lessCell}
 use Rattle.layer.specs.Layer.{Row, rowAt, rowsFrom, rowsOf, isSound, heldOf, withRow, withoutCell, rowBytes, laid}
 use Rattle.layer.specs.Places.{IsAt, GoesBefore}
 use Rattle.layer.specs.Laws.{sound-less}
-use Rattle.layer.specs.Bytes.{flatMap-append, length-rowsFrom, rows-part}
+use Rattle.layer.specs.Bytes.{flatMap-append, length-rowsFrom, rows-part, bytes-of-rows}
 use Rattle.layer.specs.Changes.{Changed, changed, saying, given, refilled, removeBy, removeIn}
 use Rattle.layer.specs.Calls.{ofHeld, heldBy, heldIn}
 use Rattle.layer.specs.declared.HeldAnswer.{HeldAnswer}
@@ -155,9 +155,10 @@ module _ (w : ℕ) (l : List ℕ) where
 
   module _ (least : 16 ≤ w) (bytes : Bytes l) (i j m : ℕ) (front : w * i ≤ length l) (back : w * j + w * m ≤ length l) where
     front-bytes : (rs : List Row) → flatMap (rowBytes w) (rowsFrom w l 0 i ++ rs) ≡ take (w * i) l ++ flatMap (rowBytes w) rs
+    unfolding rowsOf
     front-bytes rs =
         flatMap-append (rowBytes w) (rowsFrom w l 0 i) rs
-        ∙ ap (λ (r : List ℕ). r ++ flatMap (rowBytes w) rs) (rows-part w l 0 i least (omega (arith, mul-zero w)) bytes ∙ ap (λ (p : ℕ). take (w * i) (drop p l)) (mul-zero w))
+        ∙ ap (λ (r : List ℕ). r ++ flatMap (rowBytes w) rs) (bytes-of-rows w l i least front bytes)
 
     -- the first i records, a row, and m records from j on
     pub laid-parts : (s : Row) → laid w (rowsFrom w l 0 i ++ (s ∷ rowsFrom w l j m)) l ≡ take (w * i) l ++ (rowBytes w s ++ (take (w * m) (drop (w * j) l) ++ drop (w * (i + suc m)) l))

@@ -5,6 +5,7 @@ use mathlib.Core.List.{List}
 use Prim.Native.Nat.{ℕ, zero, suc, _+_, _-_, _*_, _/_, _≤_, _<_}
 use mathlib.Core.Logic.{⊎-elim}
 use native.Mathlib.Nat.{eq-or-lt-of-le, min-le-right, mul-div-le, mul-le-mul-left, mul-suc}
+use native.Mathlib.Numerals.{add-one}
 use native.Mathlib.Omega.{arith}
 use borrow.Author.Tests.{leb-true, ltb-true, ltb-false, eqb-true, ne-eqb}
 use lib.Dec.{leb, ltb}
@@ -17,6 +18,7 @@ use Rattle.cell.specs.Bytes.{cellAt}
 use Rattle.cell.specs.Laws.{less-transitive}
 use Rattle.lattice.specs.Signs.{both}
 use Rattle.layer.specs.Layer.{mostCells, roomFor, rowAt, rowsFrom, rowsOf, ascending, isSound, held, nothing, heldOf}
+use Rattle.layer.specs.declared.Place.{Place}
 use Rattle.layer.specs.declared.Place.the-variants.{At, Before}
 use Rattle.layer.specs.Places.{Stands}
 
@@ -138,3 +140,20 @@ module _ (w : ℕ) (l : List ℕ) (c : Cell) where
       differs : (k : ℕ) → k < n → (t : Bool) → ltb k i ≡ t → rawOf (rowAt w l k .cell) ≡ rawOf c → ⊥
       differs k h true e q = omega (arith, ltb-true (rawOf (rowAt w l k .cell)) (rawOf c) (s .below k (ltb-true k i e)))
       differs k h false e q = omega (arith, ltb-true (rawOf c) (rawOf (rowAt w l k .cell)) (s .above k (ltb-false k i e) h))
+
+  -- a record that was found lies within the table
+  at-within : (n i : ℕ) → isSound w l n ≡ true → Stands w l n c (At i) → w * (i + 1) ≤ length l
+  unfolding Stands
+  at-within n i e s =
+      let q : w * (i + 1) ≡ w * suc i = ap (λ (j : ℕ). w * j) (add-one i) in
+      omega (arith, q, mul-suc w i, row-within w l n i (sound-room w l n e) (s .within))
+
+  pub found-within : (n i : ℕ) {p : Place} → isSound w l n ≡ true → Stands w l n c p → p ≡ At i → w * (i + 1) ≤ length l
+  found-within n i e s q = at-within n i e (subst (Stands w l n c) q s)
+
+  -- what the layer holds of the cell, by the search's answer and what was read there
+  pub found-held : (n i : ℕ) {p : Place} {k : ℕ} → isSound w l n ≡ true → Stands w l n c p → p ≡ At i → k ≡ rowAt w l i .kept → heldOf c (rowsOf w l n) ≡ held k
+  found-held n i e s q r = find-is-held n i e (subst (Stands w l n c) q s) ∙ ap held (sym r)
+
+  pub missing-held : (n i : ℕ) {p : Place} → Stands w l n c p → p ≡ Before i → heldOf c (rowsOf w l n) ≡ nothing
+  missing-held n i s q = find-is-nothing n i (subst (Stands w l n c) q s)

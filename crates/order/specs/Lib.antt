@@ -1,4 +1,6 @@
 pub mod Sorted
 pub mod SortedLaws
+pub mod Merge
 pub mod Groups
 pub mod GroupLaws
+pub mod Listed

@@ -1,7 +1,8 @@
 -- First the cell's bytes, then the table, then the search.
 use mathlib.Core.Path.{sym, _∙_}
 use borrow.Author.Needs.{needs}
-use Rattle.layer.proofs.Answers.{on-given, not-sound, found, not-found, found-within}
+use Rattle.layer.specs.Laws.{found-within}
+use Rattle.layer.proofs.Answers.{on-given, not-sound, found, not-found}
 use Rattle.layer.proofs.held.Statement.{statement}
 use Rattle.layer.proofs.held.Tie as tie
 
@@ -27,7 +28,7 @@ kept-at-requires : tie.Need-kept-at-requires
 kept-at-requires c κs =
     let args = c .before .before .before .before .before .before .before .before .before .before .before .before .args in (
       c .before .before .before .before .before .before .before .before .before .before .before .before .pre,
-      found-within (args .width) (args .table .now) (args .count) _ _ (sym (c .before .before .before .before .before .is-sound .ensures) ∙ c .before .before .before .before .if1 .taken) (c .before .before .before .find .ensures) (c .before .place .given .1),
+      found-within (args .width) (args .table .now) _ (args .count) _ (sym (c .before .before .before .before .before .is-sound .ensures) ∙ c .before .before .before .before .if1 .taken) (c .before .before .before .find .ensures) (c .before .place .given .1),
     )
 
 enum-known-place-2 : tie.Need-enum-known-place-2
