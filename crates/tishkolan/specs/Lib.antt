@@ -2,3 +2,4 @@ pub mod Told
 pub mod Points
 pub mod Cells
 pub mod Layers
+pub mod Aggregates

@@ -1,4 +1,5 @@
 // The C face: every public call, exported on numbers and byte slices. include/tishkolan.h declares what stands here.
+pub mod aggregates;
 pub mod cells;
 pub mod flags;
 pub mod layers;
