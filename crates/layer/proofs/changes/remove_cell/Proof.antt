@@ -2,8 +2,7 @@
 use mathlib.Core.Path.{subst}
 use native.Mathlib.Omega.{arith}
 use Rattle.layer.specs.Places.{Stands, IsAt}
-use Rattle.layer.specs.Laws.{sound-room, rows-within}
-use Rattle.layer.proofs.Answers.{found-within}
+use Rattle.layer.specs.Laws.{sound-room, rows-within, found-within}
 use Rattle.layer.proofs.Rewritten.{removed, not-removed}
 use borrow.Author.Needs.{needs}
 use Rattle.layer.proofs.changes.remove_cell.Statement.{statement}
@@ -19,7 +18,7 @@ kept-at-requires : tie.Need-kept-at-requires
 kept-at-requires c κs =
     let start = c .before .before .before .before .before .before .before in
     let args = start .args in
-    (start .pre .0, found-within (args .width) (args .table .now) (args .count) (args .c) _ (start .pre .1) (c .before .before .before .before .find .ensures) (c .before .before .place .given .1))
+    (start .pre .0, found-within (args .width) (args .table .now) (args .c) (args .count) _ (start .pre .1) (c .before .before .before .before .find .ensures) (c .before .before .place .given .1))
 
 close-record-requires : tie.Need-close-record-requires
 unfolding Stands

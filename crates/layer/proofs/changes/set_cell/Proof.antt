@@ -2,7 +2,7 @@
 use mathlib.Core.Path.{subst}
 use native.Mathlib.Omega.{arith}
 use Rattle.layer.specs.Places.{Stands}
-use Rattle.layer.proofs.Answers.{found-within}
+use Rattle.layer.specs.Laws.{found-within}
 use Rattle.layer.proofs.Rewritten.{replaced}
 use borrow.Author.Needs.{needs}
 use Rattle.layer.proofs.changes.set_cell.Statement.{statement}
@@ -18,7 +18,7 @@ put-record-requires : tie.Need-put-record-requires
 put-record-requires c κs =
     let start = c .before .before .before .before .before .before .before in
     let args = start .args in
-    (start .pre .0, found-within (args .width) (args .table .now) (args .count) (args .c) _ (start .pre .1) (c .before .before .before .before .find .ensures) (c .before .before .place .given .1))
+    (start .pre .0, found-within (args .width) (args .table .now) (args .c) (args .count) _ (start .pre .1) (c .before .before .before .before .find .ensures) (c .before .before .place .given .1))
 
 enum-known-place-2 : tie.Need-enum-known-place-2
 enum-known-place-2 c = search needs
