@@ -41,6 +41,8 @@ use Rattle.tishkolan.proofs.layers.tishkolan_values_clear.Kinds as valu
 use Rattle.tishkolan.proofs.layers.tishkolan_values_clear.Reads as values-clear
 use Rattle.tishkolan.proofs.layers.tishkolan_values_list.Kinds as values-list-kinds
 use Rattle.tishkolan.proofs.layers.tishkolan_values_list.Reads as values-list
+use Rattle.tishkolan.proofs.aggregates.tishkolan_values_aggregate.Kinds as values-aggregate-kinds
+use Rattle.tishkolan.proofs.aggregates.tishkolan_values_aggregate.Reads as values-aggregate
 use Rattle.refusal.specs.OneAnswer.{OneAnswer, OneExit}
 use Rattle.layer.specs.ChangeLaws.{same-said, same-bytes}
 
@@ -127,3 +129,6 @@ values-list-one κs a z z′ e e′ p q = same-said p q
 
 pub values-list-exit : OneExit 2 values-list-kinds.ps values-list-kinds.r values-list.Post
 values-list-exit κs a z z′ last last′ p q = λ i. (a .0, (a .1 .0, (at-last (a .1 .1 .0) (same-bytes p q i), tt)))
+
+pub values-aggregate-one : OneAnswer 2 values-aggregate-kinds.ps values-aggregate-kinds.r values-aggregate.Post
+values-aggregate-one κs a z z′ e e′ p q = p ∙ sym q

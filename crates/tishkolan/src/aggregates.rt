@@ -14,7 +14,7 @@ enum Asked {
     Unknown,
 }
 
-fn asked(how: u32) -> Asked
+fn aggregation_of(how: u32) -> Asked
     ensures { λ r. ⌜ r ≡ aggregationOf how ⌝ }
 {
     match how {
@@ -71,7 +71,7 @@ pub extern "C" fn tishkolan_values_aggregate(
 ) -> BitsTold
     ensures { λ t. ⌜ t ≡ aggregateTold (now (table .entry)) count (now (cells .entry)) how ⌝ }
 {
-    let what = asked(how);
+    let what = aggregation_of(how);
     match what {
         Asked::For(aggregation) => of_aggregate(aggregate::aggregate(
             table,
