@@ -3,3 +3,4 @@ pub mod Points
 pub mod Cells
 pub mod Layers
 pub mod Aggregates
+pub mod Surveys

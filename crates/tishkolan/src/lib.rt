@@ -4,4 +4,5 @@ pub mod cells;
 pub mod flags;
 pub mod layers;
 pub mod points;
+pub mod surveys;
 pub mod told;
