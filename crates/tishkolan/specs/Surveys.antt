@@ -2,8 +2,7 @@
 -- that was not written takes 0 bytes. Definitions only. Assumes nothing.
 use mathlib.Core.List.{List}
 use Prim.Native.Nat.{ℕ}
-use Rattle.refusal.specs.declared.Refusal.{Refusal}
-use Rattle.refusal.specs.declared.Refusal.the-variants.{InvalidParity, NoParent, NoChildren, OutOfRange, NoValues, HasNan, SearchLimitExceeded, NoPathFound, CoordOverflow, NoRoom, BadWorkspace, BadFile, BadList, BadLayer, BadRule}
+use Rattle.refusal.specs.Table.{placeOf}
 use Rattle.survey.specs.declared.LoadAnswer.{LoadAnswer}
 use Rattle.survey.specs.declared.LoadAnswer.the-variants as load
 use Rattle.survey.specs.declared.WriteAnswer.{WriteAnswer}
@@ -12,24 +11,6 @@ use Rattle.survey.specs.Survey.{Loading}
 use Rattle.tishkolan.specs.declared.told.LoadTold.{LoadTold}
 use Rattle.tishkolan.specs.declared.told.LengthTold.{LengthTold}
 use Rattle.tishkolan.specs.Told.{answered, toldOf}
-
--- the place in the file that 12 carries; the others carry none
-abbrev pub placeOf : Refusal → ℕ
-placeOf (InvalidParity c) = 0
-placeOf NoParent = 0
-placeOf NoChildren = 0
-placeOf OutOfRange = 0
-placeOf NoValues = 0
-placeOf HasNan = 0
-placeOf (SearchLimitExceeded s) = 0
-placeOf (NoPathFound e) = 0
-placeOf CoordOverflow = 0
-placeOf (NoRoom r) = 0
-placeOf BadWorkspace = 0
-placeOf (BadFile p) = p
-placeOf BadList = 0
-placeOf BadLayer = 0
-placeOf BadRule = 0
 
 -- n and m are the counts that were given
 abbrev pub ofLoad : ℕ → ℕ → LoadAnswer → LoadTold

@@ -2,23 +2,12 @@
 ghost use mathlib.Core.Path.{_≡_};
 ghost use Rattle.layer.specs.Changes.{changed, saying};
 ghost use Rattle.survey.specs.Survey.{loadOf, writeOf};
-ghost use Rattle.tishkolan.specs.Surveys.{placeOf, ofLoad, loadingTold, ofLoading, ofWrite};
+ghost use Rattle.tishkolan.specs.Surveys.{ofLoad, loadingTold, ofLoading, ofWrite};
 use crate::told;
 use crate::told::LengthTold;
 use crate::told::LoadTold;
-use refusal::Refusal;
 use survey::LoadAnswer;
 use survey::WriteAnswer;
-
-// The first byte that is wrong, of a refusal that carries its place.
-fn place(r: Refusal) -> u64
-    ensures { λ p. ⌜ p ≡ placeOf r ⌝ }
-{
-    match r {
-        Refusal::BadFile(p) => p,
-        _ => 0,
-    }
-}
 
 fn of_load(flagged: usize, valued: usize, a: LoadAnswer) -> LoadTold
     ensures { λ t. ⌜ t ≡ ofLoad flagged valued a ⌝ }
@@ -32,7 +21,7 @@ fn of_load(flagged: usize, valued: usize, a: LoadAnswer) -> LoadTold
         },
         LoadAnswer::Refused(r) => LoadTold {
             refusal: told::told(r),
-            place: place(r),
+            place: refusal::place(r),
             flags: flagged as u64,
             values: valued as u64,
         },
