@@ -52,7 +52,7 @@ pub extern "C" fn tishkolan_survey_load(
     values: &mut [u8],
     values_count: usize,
 ) -> LoadTold
-    ensures { λ t. ⌜ loadingTold t (now (flags .exit)) (now (values .exit)) ≡ ofLoading flags_count values_count (loadOf (now (file .entry)) (now (flags .entry)) (now (values .entry))) ⌝ }
+    ensures { λ t. ⌜ loadingTold t (now (flags .exit)) (now (values .exit)) ≡ ofLoading «flags_count» «values_count» (loadOf (now (file .entry)) (now (flags .entry)) (now (values .entry))) ⌝ }
 {
     of_load(flags_count, values_count, survey::load(file, flags, values))
 }
@@ -66,7 +66,7 @@ pub extern "C" fn tishkolan_survey_write(
     values_count: usize,
     out: &mut [u8],
 ) -> LengthTold
-    ensures { λ t. ⌜ changed t (now (out .exit)) ≡ saying ofWrite (writeOf (now (flags .entry)) flags_count (now (values .entry)) values_count (now (out .entry))) ⌝ }
+    ensures { λ t. ⌜ changed t (now (out .exit)) ≡ saying ofWrite (writeOf (now (flags .entry)) «flags_count» (now (values .entry)) «values_count» (now (out .entry))) ⌝ }
 {
     of_write(survey::write(flags, flags_count, values, values_count, out))
 }
