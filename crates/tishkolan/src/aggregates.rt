@@ -1,0 +1,84 @@
+// The aggregates of a value layer for C, which asks for one by its number.
+ghost use mathlib.Core.Path.{_≡_};
+ghost use Rattle.tishkolan.specs.Aggregates.{aggregationOf, ofAggregated, ofAggregate, noAggregation, aggregateTold};
+use crate::told;
+use crate::told::BitsTold;
+use aggregate::AggregateAnswer;
+use aggregate::Aggregated;
+use aggregate::Aggregation;
+use refusal::Refusal;
+
+// What C asks for.
+enum Asked {
+    For(Aggregation),
+    Unknown,
+}
+
+fn aggregation_of(how: u32) -> Asked
+    ensures { λ r. ⌜ r ≡ aggregationOf how ⌝ }
+{
+    match how {
+        0 => Asked::For(Aggregation::Count),
+        1 => Asked::For(Aggregation::Sum),
+        2 => Asked::For(Aggregation::Mean),
+        3 => Asked::For(Aggregation::Min),
+        4 => Asked::For(Aggregation::Max),
+        5 => Asked::For(Aggregation::Median),
+        _ => Asked::Unknown,
+    }
+}
+
+fn of_aggregated(a: Aggregated) -> BitsTold
+    ensures { λ t. ⌜ t ≡ ofAggregated a ⌝ }
+{
+    match a {
+        Aggregated::Number(x) => told::bits(float::bits(x)),
+        Aggregated::NoValues => told::no_bits(Refusal::NoValues),
+        Aggregated::HasNan => told::no_bits(Refusal::HasNan),
+    }
+}
+
+fn of_aggregate(a: AggregateAnswer) -> BitsTold
+    ensures { λ t. ⌜ t ≡ ofAggregate a ⌝ }
+{
+    match a {
+        AggregateAnswer::Found(found) => of_aggregated(found),
+        AggregateAnswer::Refused(r) => told::no_bits(r),
+    }
+}
+
+// List and layer are tested all the same.
+fn no_aggregation(table: &[u8], count: usize, cells: &[u8]) -> BitsTold
+    ensures { λ t. ⌜ t ≡ noAggregation (now (table .entry)) count (now (cells .entry)) ⌝ }
+{
+    if cells.len() % 16 != 0 {
+        return told::no_bits(Refusal::BadList);
+    }
+    if layer::is_sound(table, 24, count) {
+        told::no_bits(Refusal::OutOfRange)
+    } else {
+        told::no_bits(Refusal::BadLayer)
+    }
+}
+
+// The aggregate of what is kept of the cells of a list.
+#[no_mangle]
+pub extern "C" fn tishkolan_values_aggregate(
+    table: &[u8],
+    count: usize,
+    cells: &[u8],
+    how: u32,
+) -> BitsTold
+    ensures { λ t. ⌜ t ≡ aggregateTold (now (table .entry)) count (now (cells .entry)) how ⌝ }
+{
+    let what = aggregation_of(how);
+    match what {
+        Asked::For(aggregation) => of_aggregate(aggregate::aggregate(
+            table,
+            count,
+            cells,
+            aggregation,
+        )),
+        Asked::Unknown => no_aggregation(table, count, cells),
+    }
+}
