@@ -1,0 +1,5 @@
+pub mod Survey
+pub mod HeaderLaws
+pub mod FileLaws
+pub mod RoundTrips
+pub mod Gathered

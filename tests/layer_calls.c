@@ -1,0 +1,289 @@
+/* Layers, aggregates, rollups and survey files from C: what each call answers and refuses, and every byte that it leaves. */
+#include "claims.h"
+
+#define FLAG TISHKOLAN_FLAG_RECORD
+#define VALUE TISHKOLAN_VALUE_RECORD
+
+static bool zero(const uint8_t *from, size_t bytes)
+{
+    while (bytes > 0 && *from == 0)
+        from++, bytes--;
+    return bytes == 0;
+}
+
+static bool same(const void *a, const void *b, size_t bytes)
+{
+    return memcmp(a, b, bytes) == 0;
+}
+
+/* A record's cell and what is kept of it, big-endian. */
+static bool flag_record(const uint8_t *record, cell c, uint32_t flags)
+{
+    return same(record, c.bytes, CELL) && record[16] == (uint8_t)(flags >> 24) && record[17] == (uint8_t)(flags >> 16)
+        && record[18] == (uint8_t)(flags >> 8) && record[19] == (uint8_t)flags;
+}
+
+/* ---- flags of a cell */
+
+static void flags_of_a_cell(void)
+{
+    CHECK(tishkolan_is_blocked(TISHKOLAN_BLOCKED) && !tishkolan_is_blocked(TISHKOLAN_NONE));
+    CHECK(!tishkolan_is_blocked(TISHKOLAN_NO_FLY | TISHKOLAN_WATER | TISHKOLAN_BOUNDARY));
+    CHECK(tishkolan_is_blocked(0xFFFFFFFF) && !tishkolan_is_blocked(0xFFFFFFFE));
+    CHECK(tishkolan_set_flag(TISHKOLAN_WATER, TISHKOLAN_BLOCKED) == 5);
+    CHECK(tishkolan_clear_flag(0xFFFFFFFF, TISHKOLAN_NO_FLY) == 0xFFFFFFFD);
+    CHECK(tishkolan_has_flag(6, TISHKOLAN_NO_FLY) && !tishkolan_has_flag(6, TISHKOLAN_BOUNDARY) && !tishkolan_has_flag(6, 0));
+}
+
+/* ---- a flag layer with room for three cells, and 7 bytes more */
+
+static void a_flag_layer(void)
+{
+    uint8_t table[3 * FLAG + 7], out[3 * FLAG];
+    const cell low = at(3, 0, 0, 0), middle = at(3, 2, 0, 0), high = at(3, 0, 0, 2), other = at(3, 4, 0, 0);
+
+    fill(table, sizeof table);
+    tishkolan_flags_clear(table, sizeof table);
+    CHECK(zero(table, 3 * FLAG) && untouched(table + 3 * FLAG, 7));
+
+    tishkolan_count_answer set = tishkolan_flags_set(table, sizeof table, 0, high.bytes, CELL, 0x80000001);
+    CHECK(answered(set.refusal) && set.count == 1);
+    set = tishkolan_flags_set(table, sizeof table, set.count, low.bytes, CELL, 2);
+    CHECK(answered(set.refusal) && set.count == 2);
+    set = tishkolan_flags_set(table, sizeof table, set.count, middle.bytes, CELL, 4);
+    CHECK(answered(set.refusal) && set.count == 3);
+    CHECK(flag_record(table, low, 2) && flag_record(table + FLAG, middle, 4) && flag_record(table + 2 * FLAG, high, 0x80000001));
+
+    /* Full: a new cell is refused, and the count that was given comes back; replacing is not. */
+    uint8_t before[sizeof table];
+    memcpy(before, table, sizeof table);
+    set = tishkolan_flags_set(table, sizeof table, 3, other.bytes, CELL, 1);
+    CHECK(no_layer_room(set.refusal) && set.count == 3 && same(before, table, sizeof table));
+    set = tishkolan_flags_set(table, sizeof table, 3, middle.bytes, CELL, 1);
+    CHECK(answered(set.refusal) && set.count == 3 && flag_record(table + FLAG, middle, 1));
+
+    tishkolan_kept_answer got = tishkolan_flags_get(table, sizeof table, 3, high.bytes, CELL);
+    CHECK(answered(got.refusal) && got.found == 1 && got.kept == 0x80000001 && got.count == 3);
+    got = tishkolan_flags_get(table, sizeof table, 3, other.bytes, CELL);
+    CHECK(answered(got.refusal) && got.found == 0 && got.kept == 0 && got.count == 3);
+    got = tishkolan_flags_get(table, sizeof table, 3, high.bytes, 15);
+    CHECK(refused(got.refusal, TISHKOLAN_BAD_LIST) && got.found == 0 && got.kept == 0 && got.count == 3);
+
+    tishkolan_number_answer there = tishkolan_flags_contains(table, sizeof table, 3, low.bytes, CELL);
+    CHECK(answered(there.refusal) && there.value == 1);
+    there = tishkolan_flags_contains(table, sizeof table, 3, other.bytes, CELL);
+    CHECK(answered(there.refusal) && there.value == 0);
+
+    /* A listing one byte short, and one that fits. */
+    fill(out, sizeof out);
+    tishkolan_count_answer listed = tishkolan_flags_list(table, sizeof table, 3, out, sizeof out - 1);
+    CHECK(no_room(listed.refusal) && listed.count == 3 && untouched(out, sizeof out));
+    listed = tishkolan_flags_list(table, sizeof table, 2, out, sizeof out);
+    CHECK(answered(listed.refusal) && listed.count == 2 && same(out, table, 2 * FLAG) && untouched(out + 2 * FLAG, FLAG));
+
+    /* The freed last record is zeroed, and its room serves again. */
+    tishkolan_kept_answer removed = tishkolan_flags_remove(table, sizeof table, 3, low.bytes, CELL);
+    CHECK(answered(removed.refusal) && removed.found == 1 && removed.kept == 2 && removed.count == 2);
+    CHECK(flag_record(table, middle, 1) && flag_record(table + FLAG, high, 0x80000001) && zero(table + 2 * FLAG, FLAG) && untouched(table + 3 * FLAG, 7));
+    removed = tishkolan_flags_remove(table, sizeof table, 2, low.bytes, CELL);
+    CHECK(answered(removed.refusal) && removed.found == 0 && removed.kept == 0 && removed.count == 2);
+    set = tishkolan_flags_set(table, sizeof table, 2, other.bytes, CELL, 1);
+    CHECK(answered(set.refusal) && set.count == 3);
+}
+
+/* ---- what is no layer */
+
+static void bad_layers(void)
+{
+    uint8_t table[2 * VALUE];
+    const cell low = at(3, 0, 0, 0), high = at(3, 0, 0, 2);
+
+    memset(table, 0, sizeof table);
+    tishkolan_count_answer count = tishkolan_values_count(table, sizeof table, 3);
+    CHECK(refused(count.refusal, TISHKOLAN_BAD_LAYER) && count.count == 3);
+    count = tishkolan_values_count(table, sizeof table, SIZE_MAX);
+    CHECK(refused(count.refusal, TISHKOLAN_BAD_LAYER) && count.count == SIZE_MAX);
+    count = tishkolan_values_count(table, sizeof table, 2); /* one cell twice */
+    CHECK(refused(count.refusal, TISHKOLAN_BAD_LAYER) && count.count == 2);
+    memcpy(table, high.bytes, CELL); /* falling */
+    count = tishkolan_values_count(table, sizeof table, 2);
+    CHECK(refused(count.refusal, TISHKOLAN_BAD_LAYER));
+    count = tishkolan_values_count(table, sizeof table, 1); /* behind the count stands anything */
+    CHECK(answered(count.refusal) && count.count == 1);
+    count = tishkolan_values_count(NULL, 0, 0);
+    CHECK(answered(count.refusal) && count.count == 0);
+
+    uint8_t before[sizeof table];
+    memcpy(before, table, sizeof table);
+    CHECK(refused(tishkolan_values_set(table, sizeof table, 2, low.bytes, CELL, 1).refusal, TISHKOLAN_BAD_LAYER));
+    CHECK(refused(tishkolan_values_set(table, sizeof table, 2, low.bytes, 17, 1).refusal, TISHKOLAN_BAD_LIST));
+    CHECK(refused(tishkolan_values_remove(table, sizeof table, 2, low.bytes, CELL).refusal, TISHKOLAN_BAD_LAYER));
+    CHECK(same(before, table, sizeof table));
+
+    tishkolan_number_answer empty = tishkolan_values_is_empty(table, sizeof table, 0);
+    CHECK(answered(empty.refusal) && empty.value == 1);
+    empty = tishkolan_values_is_empty(table, sizeof table, 1);
+    CHECK(answered(empty.refusal) && empty.value == 0);
+    empty = tishkolan_values_is_empty(table, sizeof table, 2);
+    CHECK(refused(empty.refusal, TISHKOLAN_BAD_LAYER) && empty.value == 0);
+}
+
+/* ---- aggregates and rollup: four children of (0,0,0) and one of (2,0,0), a cell of resolution 0 */
+
+static const uint64_t nan_bits = 0x7FF8000000000000;
+
+static uint64_t set_value(uint8_t *table, size_t length, uint64_t count, cell c, uint64_t bits)
+{
+    tishkolan_count_answer set = tishkolan_values_set(table, length, count, c.bytes, CELL, bits);
+    CHECK(answered(set.refusal));
+    return set.count;
+}
+
+static tishkolan_bits_answer aggregated(const uint8_t *table, size_t length, uint64_t count, const cell *list, size_t cells, uint32_t how)
+{
+    return tishkolan_values_aggregate(table, length, count, (const uint8_t *)list, cells * CELL, how);
+}
+
+static void aggregates(void)
+{
+    uint8_t table[8 * VALUE], coarse[2 * VALUE + 3];
+    uint64_t count = 0;
+    const cell list[] = {at(1, 0, 0, 0), at(1, 2, 0, 0), at(1, 2, 0, 0), at(1, 0, 2, 0), at(9, 0, 0, 0)};
+
+    count = set_value(table, sizeof table, count, list[0], tishkolan_bits_of(1.5));
+    count = set_value(table, sizeof table, count, list[1], tishkolan_bits_of(-0.0));
+    count = set_value(table, sizeof table, count, list[3], tishkolan_bits_of(4.0));
+
+    tishkolan_bits_answer answer = aggregated(table, sizeof table, count, list, 5, TISHKOLAN_COUNT);
+    CHECK(answered(answer.refusal) && answer.bits == tishkolan_bits_of(4.0));
+    answer = aggregated(table, sizeof table, count, list, 5, TISHKOLAN_SUM);
+    CHECK(answered(answer.refusal) && answer.bits == tishkolan_bits_of(5.5));
+    answer = aggregated(table, sizeof table, count, list, 5, TISHKOLAN_MEAN);
+    CHECK(answered(answer.refusal) && answer.bits == tishkolan_bits_of(1.375));
+    answer = aggregated(table, sizeof table, count, list, 5, TISHKOLAN_MIN);
+    CHECK(answered(answer.refusal) && answer.bits == tishkolan_bits_of(-0.0));
+    answer = aggregated(table, sizeof table, count, list, 5, TISHKOLAN_MAX);
+    CHECK(answered(answer.refusal) && answer.bits == tishkolan_bits_of(4.0));
+    answer = aggregated(table, sizeof table, count, list, 5, TISHKOLAN_MEDIAN);
+    CHECK(answered(answer.refusal) && answer.bits == tishkolan_bits_of(0.75));
+    answer = aggregated(table, sizeof table, count, list + 1, 1, TISHKOLAN_SUM);
+    CHECK(answered(answer.refusal) && answer.bits == tishkolan_bits_of(-0.0));
+    CHECK(refused(aggregated(table, sizeof table, count, list + 4, 1, TISHKOLAN_COUNT).refusal, TISHKOLAN_NO_VALUES));
+    CHECK(refused(aggregated(table, sizeof table, count, list, 0, TISHKOLAN_SUM).refusal, TISHKOLAN_NO_VALUES));
+    CHECK(refused(aggregated(table, sizeof table, count, list, 5, 6).refusal, TISHKOLAN_OUT_OF_RANGE));
+    CHECK(refused(tishkolan_values_aggregate(table, sizeof table, 9, (const uint8_t *)list, 17, 6).refusal, TISHKOLAN_BAD_LIST));
+    CHECK(refused(tishkolan_values_aggregate(table, sizeof table, 9, (const uint8_t *)list, 16, 6).refusal, TISHKOLAN_BAD_LAYER));
+
+    /* All three have one parent. */
+    fill(coarse, sizeof coarse);
+    tishkolan_count_answer rolled = tishkolan_values_rollup(table, sizeof table, count, TISHKOLAN_SUM, coarse, sizeof coarse, 77);
+    CHECK(answered(rolled.refusal) && rolled.count == 1 && zero(coarse + VALUE, VALUE) && untouched(coarse + 2 * VALUE, 3));
+    tishkolan_kept_answer parent = tishkolan_values_get(coarse, sizeof coarse, rolled.count, at(0, 0, 0, 0).bytes, CELL);
+    CHECK(answered(parent.refusal) && parent.found == 1 && parent.kept == tishkolan_bits_of(5.5));
+
+    /* NaN: Count counts it, the others refuse it, and it comes before the room that is missing. */
+    count = set_value(table, sizeof table, count, at(1, 4, 0, 0), 0xFFF0000000000001);
+    const cell nan_cell = at(1, 4, 0, 0);
+    answer = aggregated(table, sizeof table, count, &nan_cell, 1, TISHKOLAN_COUNT);
+    CHECK(answered(answer.refusal) && answer.bits == tishkolan_bits_of(1.0));
+    answer = aggregated(table, sizeof table, count, &nan_cell, 1, TISHKOLAN_MAX);
+    CHECK(refused(answer.refusal, TISHKOLAN_HAS_NAN) && answer.bits == 0);
+    uint8_t before[sizeof coarse];
+    memcpy(before, coarse, sizeof coarse);
+    rolled = tishkolan_values_rollup(table, sizeof table, count, TISHKOLAN_MEAN, coarse, VALUE, 77);
+    CHECK(refused(rolled.refusal, TISHKOLAN_HAS_NAN) && rolled.count == 77);
+    rolled = tishkolan_values_rollup(table, sizeof table, count, TISHKOLAN_COUNT, coarse, VALUE, 77);
+    CHECK(no_layer_room(rolled.refusal) && rolled.count == 77);
+    rolled = tishkolan_values_rollup(table, sizeof table, count, 6, coarse, sizeof coarse, 77);
+    CHECK(refused(rolled.refusal, TISHKOLAN_OUT_OF_RANGE) && rolled.count == 77 && same(before, coarse, sizeof coarse));
+
+    /* A NaN that the sum makes, and a skipped cell's NaN. */
+    tishkolan_values_clear(table, sizeof table);
+    count = set_value(table, sizeof table, 0, list[0], tishkolan_bits_of(1e308 * 10));
+    count = set_value(table, sizeof table, count, list[1], tishkolan_bits_of(-1e308 * 10));
+    answer = aggregated(table, sizeof table, count, list, 2, TISHKOLAN_SUM);
+    CHECK(answered(answer.refusal) && answer.bits == nan_bits);
+    count = set_value(table, sizeof table, count, at(0, 0, 0, 0), nan_bits);
+    count = set_value(table, sizeof table, count, at(1, 0, 1, 0), nan_bits);
+    rolled = tishkolan_values_rollup(table, sizeof table, count, TISHKOLAN_MEDIAN, coarse, sizeof coarse, 77);
+    CHECK(answered(rolled.refusal) && rolled.count == 1);
+    parent = tishkolan_values_get(coarse, sizeof coarse, rolled.count, at(0, 0, 0, 0).bytes, CELL);
+    CHECK(parent.found == 1 && parent.kept == nan_bits);
+}
+
+/* ---- survey files */
+
+static void surveys(void)
+{
+    const uint8_t empty[16] = {0, 1, 0, 0, 0, 0, 0, 0, 0, 0, 0, 16, 0, 0, 0, 16};
+    uint8_t flags[4 * FLAG], values[4 * VALUE], file[16 + 4 * FLAG + 4 * VALUE];
+
+    fill(flags, sizeof flags);
+    fill(values, sizeof values);
+    tishkolan_load_answer load = tishkolan_survey_load(empty, 16, flags, sizeof flags, 99, values, sizeof values, 98);
+    CHECK(answered(load.refusal) && load.place == 0 && load.flags == 0 && load.values == 0);
+    CHECK(zero(flags, sizeof flags) && zero(values, sizeof values));
+
+    /* Each place of BAD_FILE. A refusal leaves both tables and tells the counts that were given. */
+    const struct {
+        size_t length;
+        size_t at;
+        uint8_t byte;
+        uint64_t place;
+    } damaged[] = {
+        {0, 0, 0, 0}, {15, 0, 0, 15}, {16, 1, 2, 0}, {16, 2, 5, 2}, {16, 4, 5, 4}, {16, 7, 1, 6}, {16, 11, 17, 8}, {16, 15, 17, 12}, {17, 0, 0, 16},
+    };
+    fill(flags, sizeof flags);
+    fill(values, sizeof values);
+    for (size_t i = 0; i < sizeof damaged / sizeof damaged[0]; i++) {
+        uint8_t bytes[17] = {0};
+        memcpy(bytes, empty, 16);
+        bytes[damaged[i].at] = damaged[i].byte;
+        load = tishkolan_survey_load(bytes, damaged[i].length, flags, sizeof flags, 99, values, sizeof values, 98);
+        CHECK(refused(load.refusal, TISHKOLAN_BAD_FILE) && load.place == damaged[i].place && load.flags == 99 && load.values == 98);
+    }
+    CHECK(untouched(flags, sizeof flags) && untouched(values, sizeof values));
+
+    /* What is written is read back. */
+    tishkolan_flags_clear(flags, sizeof flags);
+    tishkolan_values_clear(values, sizeof values);
+    uint64_t flag_count = tishkolan_flags_set(flags, sizeof flags, 0, at(3, 2, 2, 2).bytes, CELL, 1).count;
+    flag_count = tishkolan_flags_set(flags, sizeof flags, flag_count, at(3, 1, 1, 1).bytes, CELL, 2).count;
+    uint64_t value_count = set_value(values, sizeof values, 0, at(3, 1, 1, 1), 0xFFF0000000000001);
+    fill(file, sizeof file);
+    tishkolan_length_answer written = tishkolan_survey_write(flags, sizeof flags, flag_count, values, sizeof values, value_count, file, 16 + 2 * FLAG + VALUE - 1);
+    CHECK(no_room(written.refusal) && written.length == 0 && untouched(file, sizeof file));
+    written = tishkolan_survey_write(flags, sizeof flags, flag_count, values, sizeof values, value_count, file, sizeof file);
+    CHECK(answered(written.refusal) && written.length == 16 + 2 * FLAG + VALUE && untouched(file + written.length, sizeof file - written.length));
+    CHECK(same(file + 16, flags, 2 * FLAG) && same(file + 16 + 2 * FLAG, values, VALUE) && file[3] == 2 && file[5] == 1 && file[15] == 56);
+    CHECK(refused(tishkolan_survey_write(flags, sizeof flags, flag_count, values, sizeof values, 5, file, sizeof file).refusal, TISHKOLAN_BAD_LAYER));
+
+    uint8_t flags_again[4 * FLAG], values_again[4 * VALUE];
+    fill(flags_again, sizeof flags_again);
+    fill(values_again, sizeof values_again);
+    load = tishkolan_survey_load(file, written.length, flags_again, sizeof flags_again, 0, values_again, sizeof values_again, 0);
+    CHECK(answered(load.refusal) && load.flags == 2 && load.values == 1);
+    CHECK(same(flags, flags_again, sizeof flags) && same(values, values_again, sizeof values));
+
+    /* One byte short, one long; a later record of a cell replaces the earlier; room by distinct cells. */
+    load = tishkolan_survey_load(file, written.length - 1, flags_again, sizeof flags_again, 2, values_again, sizeof values_again, 1);
+    CHECK(refused(load.refusal, TISHKOLAN_BAD_FILE) && load.place == written.length - 1 && load.flags == 2 && load.values == 1);
+    load = tishkolan_survey_load(file, written.length + 1, flags_again, sizeof flags_again, 2, values_again, sizeof values_again, 1);
+    CHECK(refused(load.refusal, TISHKOLAN_BAD_FILE) && load.place == written.length);
+    memcpy(file + 16 + FLAG, file + 16, CELL);
+    load = tishkolan_survey_load(file, written.length, flags_again, FLAG, 0, values_again, VALUE, 0);
+    CHECK(answered(load.refusal) && load.flags == 1 && load.values == 1 && flag_record(flags_again, at(3, 1, 1, 1), 1));
+    load = tishkolan_survey_load(file, written.length, flags_again, FLAG - 1, 7, values_again, VALUE, 8);
+    CHECK(no_layer_room(load.refusal) && load.place == 0 && load.flags == 7 && load.values == 8);
+}
+
+int main(void)
+{
+    flags_of_a_cell();
+    a_flag_layer();
+    bad_layers();
+    aggregates();
+    surveys();
+    printf("layer calls: %d claims hold, %d do not\n", passed, failed);
+    return failed != 0;
+}
