@@ -50,8 +50,8 @@ alike {k} {sent} {homing} {r} {s} three p q =
     ⊎-elim
     (λ (e : k ≡ 1). same (p .is-sent e ∙ sym (q .is-sent e)))
     (⊎-elim
-      (λ (e : k ≡ 2). same (p .is-homing e ∙ sym (q .is-homing e)))
-      (λ (e : k ≡ 0). (p .is-empty e .0 ∙ sym (q .is-empty e .0), p .is-empty e .1 ∙ sym (q .is-empty e .1))))
+    (λ (e : k ≡ 2). same (p .is-homing e ∙ sym (q .is-homing e)))
+    (λ (e : k ≡ 0). (p .is-empty e .0 ∙ sym (q .is-empty e .0), p .is-empty e .1 ∙ sym (q .is-empty e .1))))
     three
 
 pub choose-one : (κs : Lfts 6) (a : Dens κs choose-kinds.ps) (z z′ : resT choose-kinds.r κs .Denot) (e e′ : AtExit (endedOf 6 choose-kinds.ps choose-kinds.r) κs)
