@@ -45,6 +45,18 @@ pub parent-resolution : (c p : Cell) → parentOf c ≡ Is p → resolutionOf p 
 unfolding parentOf
 parent-resolution c p e = coarser c p (eqb (resolutionOf c) 0) (lattice.parentOf (coordOf c)) e
 
+words-above : (c p : Cell) → Words c → (b : Bool) (a : CoordAnswer) → lattice.parentOf (coordOf c) ≡ a → cond b (Refused NoParent) (parentAt a c) ≡ Is p → Words p
+words-above c p w true a q e = let z : _≡_ {A = ℕ} 0 1 = cc in absurd (omega arith)
+words-above c p w false (coord.Refused r) q e = let z : _≡_ {A = ℕ} 0 1 = cc in absurd (omega arith)
+words-above c p w false (coord.At d) q e =
+    let same : plainAt (frameOf c) (resolutionOf c - 1) d ≡ p = cc in
+    subst Words same (fields-packed (frameOf c) (resolutionOf c - 1) d 0 0 (omega arith) (omega arith) (omega arith) (parent-fits (coordOf c) d (coord-fits c w) q) .words)
+
+-- and two words, as the cell is
+pub parent-words : (c p : Cell) → Words c → parentOf c ≡ Is p → Words p
+unfolding parentOf
+parent-words c p w e = words-above c p w (eqb (resolutionOf c) 0) (lattice.parentOf (coordOf c)) refl e
+
 -- a plain cell of this frame and resolution at a lattice point
 pub record PlainPoint (frame resolution : ℕ) (k : Cell) : Type 0 where
   pub words : Words k

@@ -170,6 +170,11 @@ unfolding rowsFrom
 rows-storable w l i zero b = no-rows
 rows-storable w l i (suc n) b = one-more (row-storable w l i b) (rows-storable w l (suc i) n b)
 
+-- those of two lists together
+pub storable-append : (w : ℕ) (rs ss : List Row) → AllStorable w rs → AllStorable w ss → AllStorable w (rs ++ ss)
+storable-append w [] ss no-rows b = b
+storable-append w (r ∷ rs) ss (one-more h a) b = one-more h (storable-append w rs ss a b)
+
 set-storable : (w : ℕ) (s r : Row) (rs : List Row) (below same : Bool) → Storable w s → Storable w r → AllStorable w rs → AllStorable w (withRow s rs) → AllStorable w (cond below (s ∷ (r ∷ rs)) (cond same (s ∷ rs) (r ∷ withRow s rs)))
 set-storable w s r rs true same h g a rest = one-more h (one-more g a)
 set-storable w s r rs false true h g a rest = one-more h a

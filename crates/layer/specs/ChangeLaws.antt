@@ -1,9 +1,9 @@
 -- What a cell's place says of the records: where `set` and `remove` change them, by index, and which bytes of the table that is. Over the width of a record. Assumes nothing.
 use mathlib.Core.Path.{_≡_, refl, sym, ap, ap₂, _∙_}
 use mathlib.Core.Bool.{Bool, true, false, cond}
-use mathlib.Core.List.{List, _∷_, _++_, flatMap, append-assoc}
+use mathlib.Core.List.{List, [], _∷_, _++_, flatMap, append-assoc}
 use Prim.Native.Nat.{ℕ, zero, suc, _+_, _-_, _*_, _≤_, _<_}
-use native.Mathlib.Nat.{mul-zero, zero-add, add-zero, add-suc, suc-add, sub-self}
+use native.Mathlib.Nat.{mul-zero, zero-add, add-zero, add-suc, suc-add, sub-self, mul-le-mul-left}
 use native.Mathlib.Omega.{arith}
 use borrow.Author.Tests.{ltb-true, eqb-true, lt-ltb, le-ltb, ne-eqb}
 use lib.ListN.{length, take, drop, replicate, length-append, take-append-drop}
@@ -18,7 +18,7 @@ use Rattle.cell.specs.Cell.{sameCell, lessCell}
 use Rattle.layer.specs.Layer.{Row, rowAt, rowsFrom, rowsOf, isSound, heldOf, withRow, withoutCell, rowBytes, laid}
 use Rattle.layer.specs.Places.{IsAt, GoesBefore}
 use Rattle.layer.specs.Laws.{sound-less}
-use Rattle.layer.specs.Bytes.{flatMap-append, length-rowsFrom, rows-part, bytes-of-rows}
+use Rattle.layer.specs.Bytes.{Storable, no-rows, one-more, flatMap-append, length-rowsFrom, rows-part, bytes-of-rows, rows-laid, rows-storable, storable-append}
 use Rattle.layer.specs.Changes.{Changed, changed, saying, given, refilled, removeBy, removeIn}
 use Rattle.layer.specs.Calls.{ofHeld, heldBy, heldIn}
 use Rattle.layer.specs.declared.HeldAnswer.{HeldAnswer}
@@ -185,3 +185,14 @@ module _ (w : ℕ) (l : List ℕ) where
   refilled-rows n least bytes f =
       let none = mul-zero w in
       refilled-parts least bytes 0 0 n (omega arith) (omega arith) n ∙ rw (none, zero-add n, sub-self n, none) (take-append-drop (w * n) l)
+
+  -- a record that is written after the first n is the next of the rows
+  pub rows-put : (n : ℕ) (r : Row) → 16 ≤ w → Bytes l → w * (n + 1) ≤ length l → Storable w r → rowsOf w (take (w * n) l ++ (rowBytes w r ++ drop (w * (n + 1)) l)) (n + 1) ≡ rowsOf w l n ++ (r ∷ [])
+  unfolding rowsOf rowsFrom
+  rows-put n r least bytes f s =
+      let none = mul-zero w in
+      let rs = rowsFrom w l 0 n ++ (r ∷ []) in
+      let front : w * n ≤ length l = omega (arith, mul-le-mul-left {m = n} {n = n + 1} w (omega arith)) in
+      let put : laid w rs l ≡ take (w * n) l ++ (rowBytes w r ++ drop (w * (n + 1)) l) = laid-parts least bytes n 0 0 front (omega arith) r ∙ rw none in
+      let count : length rs ≡ n + 1 = length-append (rowsFrom w l 0 n) (r ∷ []) ∙ ap (λ (k : ℕ). k + 1) (length-rowsFrom w l 0 n) in
+      ap₂ (rowsOf w) (sym put) (sym count) ∙ rows-laid w rs l least (storable-append w (rowsFrom w l 0 n) (r ∷ []) (rows-storable w l 0 n bytes) (one-more s no-rows))

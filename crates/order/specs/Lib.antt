@@ -4,3 +4,4 @@ pub mod Merge
 pub mod Groups
 pub mod GroupLaws
 pub mod Listed
+pub mod Numbered

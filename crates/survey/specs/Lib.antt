@@ -3,3 +3,4 @@ pub mod HeaderLaws
 pub mod FileLaws
 pub mod RoundTrips
 pub mod Gathered
+pub mod FullRoom
