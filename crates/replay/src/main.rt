@@ -7,31 +7,38 @@ use libc::STDOUT_FILENO;
 // The number of the argument that names the list of layers.
 const LAYERS: usize = 2;
 
-// One line: the answers, those that differ, the first of them, and whether the list is cut off.
-fn report(tally: Tally, bytes: usize, argument: usize) {
+// The answers, those that differ, and the first of them.
+fn print_tally(tally: Tally, what: &[u8]) {
     io::print_decimal(STDOUT_FILENO, tally.answers as u64);
-    io::write_all(STDOUT_FILENO, b" answers");
-    if argument == LAYERS {
-        io::write_all(STDOUT_FILENO, b" on layers");
-    }
-    io::write_all(STDOUT_FILENO, b", ");
+    io::write_all(STDOUT_FILENO, what);
     io::print_decimal(STDOUT_FILENO, tally.differ as u64);
     io::write_all(STDOUT_FILENO, b" differ");
     if tally.differ > 0 {
         io::write_all(STDOUT_FILENO, b", the first at record ");
         io::print_decimal(STDOUT_FILENO, tally.first as u64);
     }
-    if bytes % 64 != 0 {
+}
+
+fn print_skipped(skipped: usize) {
+    if skipped > 0 {
+        io::write_all(STDOUT_FILENO, b", ");
+        io::print_decimal(STDOUT_FILENO, skipped as u64);
+        io::write_all(STDOUT_FILENO, b" skipped");
+    }
+}
+
+// One line, which also says whether the list is cut off.
+fn report(list: &[u8], argument: usize) {
+    if argument == LAYERS {
+        print_tally(answers::layers::replay(list), b" answers on layers, ");
+        print_skipped(answers::layers::skipped(list));
+    } else {
+        print_tally(answers::replay(list), b" answers, ");
+    }
+    if list.len() % 64 != 0 {
         io::write_all(STDOUT_FILENO, b", and the list ends inside a record");
     }
     io::write_all(STDOUT_FILENO, b"\n");
-}
-
-fn replayed(list: &[u8], argument: usize) -> Tally {
-    if argument == LAYERS {
-        return answers::layers::replay(list);
-    }
-    answers::replay(list)
 }
 
 fn replay(argument: usize) {
@@ -45,7 +52,7 @@ fn replay(argument: usize) {
     let mut list = io::large_buffer();
     let read = io::read_full(file, &mut list);
     libc::close(file);
-    report(replayed(&list[..read], argument), read, argument);
+    report(&list[..read], argument);
 }
 
 fn main() {
