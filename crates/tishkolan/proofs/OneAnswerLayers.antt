@@ -43,6 +43,8 @@ use Rattle.tishkolan.proofs.layers.tishkolan_values_list.Kinds as value
 use Rattle.tishkolan.proofs.layers.tishkolan_values_list.Reads as values-list
 use Rattle.tishkolan.proofs.aggregates.tishkolan_values_aggregate.Kinds as values-aggregate-kinds
 use Rattle.tishkolan.proofs.aggregates.tishkolan_values_aggregate.Reads as values-aggregate
+use Rattle.tishkolan.proofs.aggregates.tishkolan_values_rollup.Kinds as values-rollup-kinds
+use Rattle.tishkolan.proofs.aggregates.tishkolan_values_rollup.Reads as values-rollup
 use Rattle.tishkolan.proofs.surveys.tishkolan_survey_load.Kinds as survey-load-kinds
 use Rattle.tishkolan.proofs.surveys.tishkolan_survey_load.Reads as survey-load
 use Rattle.tishkolan.proofs.surveys.tishkolan_survey_write.Kinds as survey-write-kinds
@@ -137,6 +139,12 @@ values-list-exit κs a z z′ last last′ p q = λ i. (a .0, (a .1 .0, (at-last
 
 pub values-aggregate-one : OneAnswer 2 values-aggregate-kinds.ps values-aggregate-kinds.r values-aggregate.Post
 values-aggregate-one κs a z z′ e e′ p q = p ∙ sym q
+
+pub values-rollup-one : OneAnswer 2 values-rollup-kinds.ps values-rollup-kinds.r values-rollup.Post
+values-rollup-one κs a z z′ e e′ p q = same-said p q
+
+pub values-rollup-exit : OneExit 2 values-rollup-kinds.ps values-rollup-kinds.r values-rollup.Post
+values-rollup-exit κs a z z′ last last′ p q = λ i. (a .0, (a .1 .0, (a .1 .1 .0, (at-last (a .1 .1 .1 .0) (same-bytes p q i), (a .1 .1 .1 .1 .0, tt)))))
 
 -- ---- survey files
 

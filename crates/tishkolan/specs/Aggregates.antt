@@ -1,5 +1,5 @@
--- The aggregates of a value layer for C: an aggregation is its number, in the order of the enum. List and layer are tested before the number, so one that stands for no aggregation is
--- OutOfRange after BadList and BadLayer. An aggregate is told by its bits. Definitions only. Assumes nothing.
+-- The aggregates and the rollup of a value layer for C: an aggregation is its number, in the order of the enum. List and layer are tested before the number, so one that stands for no
+-- aggregation is OutOfRange after BadList and BadLayer. An aggregate is told by its bits. Definitions only. Assumes nothing.
 use mathlib.Core.Bool.{cond}
 use mathlib.Core.List.{List, [], _∷_}
 use Prim.Native.Nat.{ℕ}
@@ -14,6 +14,10 @@ use Rattle.aggregate.specs.declared.Aggregated.the-variants.{Number, NoValues, 
 use Rattle.aggregate.specs.declared.AggregateAnswer.{AggregateAnswer}
 use Rattle.aggregate.specs.declared.AggregateAnswer.the-variants as answer
 use Rattle.aggregate.specs.Aggregate.{aggregateIn}
+use Rattle.layer.specs.declared.CountAnswer.{CountAnswer}
+use Rattle.layer.specs.declared.CountAnswer.the-variants as count
+use Rattle.layer.specs.Changes.{Changed, changed}
+use Rattle.rollup.specs.Rollup.{rollupIn}
 use Rattle.tishkolan.specs.declared.told.BitsTold.{BitsTold}
 use Rattle.tishkolan.specs.declared.aggregates.Asked.{Asked}
 use Rattle.tishkolan.specs.declared.aggregates.Asked.the-variants.{For, Unknown}
@@ -48,3 +52,17 @@ aggregateBy Unknown l n cells = noAggregation l n cells
 unfoldable pub aggregateTold : List ℕ → ℕ → List ℕ → ℕ → BitsTold
 unfolding aggregateIn aggregationOf noAggregation
 aggregateTold l n cells how = aggregateBy (aggregationOf how) l n cells
+
+-- ---- rollup
+
+unfoldable pub noRollup : List ℕ → ℕ → CountAnswer
+unfolding isSound
+noRollup fine n = count.Refused (cond (isSound 24 fine n) refusal.OutOfRange refusal.BadLayer)
+
+abbrev pub rollupBy : Asked → List ℕ → ℕ → List ℕ → Changed CountAnswer
+rollupBy (For how) fine n coarse = rollupIn how fine n coarse
+rollupBy Unknown fine n coarse = changed (noRollup fine n) coarse
+
+unfoldable pub rollupAsked : List ℕ → ℕ → ℕ → List ℕ → Changed CountAnswer
+unfolding rollupIn aggregationOf noRollup
+rollupAsked fine n how coarse = rollupBy (aggregationOf how) fine n coarse

@@ -1,11 +1,16 @@
-// The aggregates of a value layer for C, which asks for one by its number.
+// The aggregates and the rollup of a value layer for C, which asks for one by its number.
 ghost use mathlib.Core.Path.{_≡_};
-ghost use Rattle.tishkolan.specs.Aggregates.{aggregationOf, ofAggregated, ofAggregate, noAggregation, aggregateTold};
+ghost use Rattle.layer.specs.Changes.{changed, saying};
+ghost use Rattle.tishkolan.specs.Aggregates.{aggregationOf, ofAggregated, ofAggregate, noAggregation, aggregateTold, noRollup, rollupAsked};
+ghost use Rattle.tishkolan.specs.Layers.{ofCount};
+use crate::layers;
 use crate::told;
 use crate::told::BitsTold;
+use crate::told::CountTold;
 use aggregate::AggregateAnswer;
 use aggregate::Aggregated;
 use aggregate::Aggregation;
+use layer::CountAnswer;
 use refusal::Refusal;
 
 // What C asks for.
@@ -81,4 +86,39 @@ pub extern "C" fn tishkolan_values_aggregate(
         )),
         Asked::Unknown => no_aggregation(table, count, cells),
     }
+}
+
+// The fine layer is tested all the same.
+fn no_rollup(fine: &[u8], count: usize) -> CountAnswer
+    ensures { λ r. ⌜ r ≡ noRollup (now (fine .entry)) count ⌝ }
+{
+    if layer::is_sound(fine, 24, count) {
+        CountAnswer::Refused(Refusal::OutOfRange)
+    } else {
+        CountAnswer::Refused(Refusal::BadLayer)
+    }
+}
+
+fn rollup_asked(fine: &[u8], count: usize, how: u32, coarse: &mut [u8]) -> CountAnswer
+    ensures { λ r. ⌜ changed r (now (coarse .exit)) ≡ rollupAsked (now (fine .entry)) count how (now (coarse .entry)) ⌝ }
+{
+    let what = aggregation_of(how);
+    match what {
+        Asked::For(aggregation) => rollup::rollup(fine, count, aggregation, coarse),
+        Asked::Unknown => no_rollup(fine, count),
+    }
+}
+
+// The layer of the parents; given is the count of the coarse layer before.
+#[no_mangle]
+pub extern "C" fn tishkolan_values_rollup(
+    fine: &[u8],
+    count: usize,
+    how: u32,
+    coarse: &mut [u8],
+    given: usize,
+) -> CountTold
+    ensures { λ t. ⌜ changed t (now (coarse .exit)) ≡ saying (ofCount given) (rollupAsked (now (fine .entry)) count how (now (coarse .entry))) ⌝ }
+{
+    layers::of_count(given, rollup_asked(fine, count, how, coarse))
 }

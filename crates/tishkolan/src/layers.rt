@@ -15,7 +15,7 @@ use layer::FlagsAnswer;
 use layer::ValueAnswer;
 use refusal::Refusal;
 
-fn of_count(given: usize, a: CountAnswer) -> CountTold
+pub fn of_count(given: usize, a: CountAnswer) -> CountTold
     ensures { λ t. ⌜ t ≡ ofCount given a ⌝ }
 {
     match a {

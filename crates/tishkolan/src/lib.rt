@@ -4,5 +4,6 @@ pub mod cells;
 pub mod flags;
 pub mod layers;
 pub mod points;
+pub mod routes;
 pub mod surveys;
 pub mod told;
