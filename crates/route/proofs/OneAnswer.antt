@@ -1,14 +1,13 @@
 -- Two answers that meet the contract of a call of the checker agree: what is lent decides them. Of a list that is handed back, its place and its bytes agree. Assumes nothing.
 use mathlib.Core.Path.{_≡_, sym, ap, subst, _∙_}
 use mathlib.Core.Logic.{⊎-elim}
-use mathlib.Core.List.{List, []}
+use mathlib.Core.List.{List}
 use Prim.Native.Nat.{ℕ}
 use contract.Lifetimes.{Lfts}
 use denote.Ref.{RefT, now}
 use denote.Triple.Clauses.{AtExit}
 use borrow.Fn.Kinds.{Dens, resT, endedOf}
 use Rattle.refusal.specs.OneAnswer.{OneAnswer}
-use Rattle.route.specs.Route.{verdictOf}
 use Rattle.route.specs.Choice.{Chosen, OneOfThree, three-choices}
 use Rattle.route.proofs.is_step.Kinds as is-step-kinds
 use Rattle.route.proofs.is_step.Reads as is-step

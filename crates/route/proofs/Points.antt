@@ -6,13 +6,11 @@ use lib.IntN.{pos}
 use lib.Ieee.{add, ofBits, toBits}
 use Rattle.refusal.specs.declared.Cell.{Cell}
 use Rattle.refusal.specs.Table.{rawOf}
-use Rattle.words.specs.Word.{lowDigits, number, ordered, bytesOf, word}
-use Rattle.lattice.specs.Lattice.{at, isLatticePoint, neighborSteps, neighborPlaces}
-use Rattle.cell.specs.Cell.{coordOf, packed, plainAt}
-use Rattle.cell.specs.Bytes.{cellAt, cellBytes}
-use Rattle.cell.specs.Lists.{cellsFrom, cellsOf}
-use Rattle.layer.specs.Layer.{heldOf, rowsFrom, rowsOf, ascending, isSound}
-use Rattle.route.specs.Route.{amongPlaces, isStep, costBetween, isShut, walkFrom, judgeCells, verdictOf}
+use Rattle.words.specs.Word.{lowDigits, number, ordered, bytesOf}
+use Rattle.lattice.specs.Lattice.{at}
+use Rattle.cell.specs.Cell.{plainAt}
+use Rattle.cell.specs.Bytes.{cellBytes}
+use Rattle.route.specs.Route.{verdictOf}
 
 -- a plain cell of frame 0 and resolution 0
 abbrev cell : ℕ → ℕ → ℕ → Cell

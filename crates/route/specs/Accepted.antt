@@ -2,10 +2,9 @@
 use mathlib.Core.Path.{_≡_}
 use mathlib.Core.Bool.{true, false}
 use mathlib.Core.List.{List, [], _∷_, List·Memᴰ}
-use Prim.Native.Nat.{ℕ, suc, _-_, _%_, _<_}
+use Prim.Native.Nat.{ℕ, _%_}
 use lib.IntN.{pos}
 use lib.Ieee.{Float, fin, binary64, add, toBits}
-use lib.ListN.{length, getD}
 use Rattle.refusal.specs.declared.Cell.{Cell}
 use Rattle.lattice.specs.Lattice.{isLatticePoint, neighborPlaces}
 use Rattle.distance.specs.Distance.{distanceOf}

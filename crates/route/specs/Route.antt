@@ -1,12 +1,12 @@
 -- "Verdict 0, or the first failing: 13, 14, 15; 20 empty; 21 wrong start; then per index 22 not a neighbour, 23 blocked; 24 wrong goal; 25 wrong cost bits. A mixed-parity cell has no
 -- neighbours. An edge cell's neighbours are here those of the 14 whose coordinates fit i32, without wrapping." The scope document's section "The route checker". Definitions only. Assumes nothing.
-use mathlib.Core.Bool.{Bool, true, false, cond, _&&_, _||_, Bool·beq}
-use mathlib.Core.List.{List, [], _∷_, map}
+use mathlib.Core.Bool.{Bool, false, cond, _&&_, _||_, Bool·beq}
+use mathlib.Core.List.{List, [], _∷_}
 use Prim.Native.Nat.{ℕ}
 use lib.Dec.{eqb, ltb}
-use lib.IntN.{ℤ, pos, negsuc}
+use lib.IntN.{pos, negsuc}
 use lib.Ieee.{Float, fin, binary64, add, toBits}
-use lib.ListN.{length, take}
+use lib.ListN.{length}
 use Rattle.refusal.specs.declared.Coord.{Coord}
 use Rattle.refusal.specs.declared.Cell.{Cell}
 use Rattle.lattice.specs.Lattice.{isOdd, isLatticePoint, within, neighborPlaces}

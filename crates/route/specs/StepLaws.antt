@@ -15,7 +15,7 @@ use Rattle.refusal.specs.declared.Cell.{Cell}
 use Rattle.refusal.specs.Table.{rawOf}
 use Rattle.lattice.specs.Lattice.{Fitting, isLatticePoint, within, neighborPlaces}
 use Rattle.lattice.specs.Signs.{both, three, within-mag}
-use Rattle.cell.specs.Cell.{frameOf, resolutionOf, exponentOf, flagsOf, reservedOf, coordOf, packed, isPlain, plainAt, plainTwin, sameCell}
+use Rattle.cell.specs.Cell.{frameOf, resolutionOf, exponentOf, flagsOf, reservedOf, coordOf, isPlain, plainAt, plainTwin, sameCell}
 use Rattle.cell.specs.Bits.{lowWord, low-whole}
 use Rattle.cell.specs.Laws.{Words, fields-packed, coord-fits, plain-twin, plain-is-plain, same-cell}
 use Rattle.route.specs.Route.{fitting, amongPlaces, isStep}
@@ -143,7 +143,7 @@ is-kin a b k =
     eq-eqb (b .low % 4294967296) (a .low % 65536)
     (low-bits (b .low / 4294967296) (b .low) (a .low) (sym (λ i. lowWord (b .low / 4294967296) (flags i) (exponent i) (k .same-resolution i) (k .same-frame i)) ∙ word))
 
-abbrev stepTests : Cell → Cell → Bool
+abbrev pub stepTests : Cell → Cell → Bool
 stepTests a b = isLatticePoint (coordOf a) && (isKin a b && isNear (coordOf a) (coordOf b))
 
 tests-step : (a b : Cell) → stepTests a b ≡ true → Step a b

@@ -4,7 +4,6 @@ ghost use mathlib.Core.Path.{_≡_};
 ghost use Prim.Native.Nat.{_≤_};
 ghost use lib.IntN.{natAbs, _-ℤ_};
 ghost use lib.ListN.{length};
-ghost use Rattle.cell.specs.Bytes.{cellAt};
 ghost use Rattle.cell.specs.Lists.{isList, cellsOf};
 ghost use Rattle.layer.specs.Layer.{rowsOf, isSound};
 ghost use Rattle.route.specs.Near.{shortSquare, isNear};

@@ -1,4 +1,4 @@
--- First the goal, then the bits of the cost.
+-- First the goal, then the bits of the cost. Assumes nothing.
 use mathlib.Core.Path.{_≡_, sym, _∙_}
 use mathlib.Core.Bool.{cond}
 use borrow.Author.Needs.{needs}

@@ -1,4 +1,4 @@
--- The sent list is judged first; the homing one only where that is not accepted.
+-- The sent list is judged first; the homing one only where that is not accepted. Assumes nothing.
 use mathlib.Core.Path.{sym, _∙_}
 use borrow.Author.Needs.{needs}
 use Rattle.route.specs.Choice.{sent-chosen, homing-chosen, neither-chosen}

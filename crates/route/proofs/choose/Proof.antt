@@ -1,4 +1,4 @@
--- What is handed back is what was lent, by the number of the choice.
+-- What is handed back is what was lent, by the number of the choice. Assumes nothing.
 use mathlib.Core.Path.{refl, sym, _∙_}
 use native.Mathlib.Omega.{arith}
 use borrow.Author.Needs.{needs}

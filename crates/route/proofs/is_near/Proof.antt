@@ -1,4 +1,4 @@
--- Each square is at most 5, so that their sum fits; its two tests are those of the definition.
+-- Each square is at most 5, so that their sum fits; its two tests are those of the definition. Assumes nothing.
 use mathlib.Core.Path.{_≡_, sym, ap, _∙_}
 use mathlib.Core.Bool.{_&&_}
 use Prim.Native.Nat.{ℕ, _+_}

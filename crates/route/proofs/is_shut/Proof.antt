@@ -1,4 +1,4 @@
--- The rule decides whether the layer is asked; then what the search found.
+-- The rule decides whether the layer is asked; then what the search found. Assumes nothing.
 use borrow.Author.Needs.{needs}
 use Rattle.layer.specs.Layer.{rowsOf}
 use Rattle.route.proofs.Shut.{found, missing, not-asked, found-within}

@@ -1,4 +1,4 @@
--- The three tests of the code are those of `step-tested`.
+-- The three tests of the code are those of `step-tested`. Assumes nothing.
 use mathlib.Core.Path.{_≡_, sym, ap, _∙_}
 use mathlib.Core.Bool.{_&&_}
 use native.Mathlib.Omega.{arith}

@@ -1,6 +1,6 @@
--- A list of cells that is not empty has a first one; whether it is the start decides.
+-- A list of cells that is not empty has a first one; whether it is the start decides. Assumes nothing.
 use mathlib.Core.Path.{_≡_, sym, ap, _∙_}
-use Prim.Native.Nat.{_+_, _≤_, _%_}
+use Prim.Native.Nat.{_%_, _≤_}
 use native.Mathlib.Omega.{arith}
 use borrow.Author.Needs.{needs}
 use borrow.Author.Tests.{eqb-true}

@@ -1,4 +1,4 @@
--- The difference in 64 bits is the true one; from -2 to 2 its product is the square.
+-- The difference in 64 bits is the true one; from -2 to 2 its product is the square. Assumes nothing.
 use mathlib.Core.Path.{_≡_, sym, ap, subst, _∙_}
 use Prim.Native.Nat.{ℕ, _≤_}
 use native.Mathlib.Omega.{arith}

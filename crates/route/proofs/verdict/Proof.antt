@@ -1,6 +1,6 @@
--- The lists, the layer, the rule, in this order; then the cells.
+-- The lists, the layer, the rule, in this order; then the cells. Assumes nothing.
 use mathlib.Core.Path.{_≡_, refl, sym, _∙_}
-use mathlib.Core.Bool.{true, false}
+use mathlib.Core.Bool.{true}
 use native.Mathlib.Omega.{arith}
 use borrow.Author.Needs.{needs}
 use borrow.Author.Tests.{not-true, not-false, eqb-true, lt-ltb, le-ltb}

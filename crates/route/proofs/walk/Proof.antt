@@ -1,4 +1,4 @@
--- What is left of the walk, from the last cell on at what was paid, is always the whole walk.
+-- What is left of the walk, from the last cell on at what was paid, is always the whole walk. Assumes nothing.
 use mathlib.Core.Path.{_≡_, refl, sym, ap, _∙_}
 use mathlib.Core.Bool.{Bool, false, cond}
 use Prim.Native.Nat.{_+_, _-_}
