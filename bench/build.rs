@@ -1,15 +1,25 @@
-//! Links the library: target/staticlib/libtishkolan.a, or what TISHKOLAN_LIBRARY names.
+//! Links the library: what TISHKOLAN_LIBRARY names, as bench/run sets it. Calls that it does not
+//! have are not timed.
 
-use std::path::{Path, PathBuf};
+const GROUPS: [(&str, &str); 2] = [
+    ("aggregates", "tishkolan_values_rollup"),
+    ("survey", "tishkolan_survey_write"),
+];
 
 fn main() {
-    let root = Path::new(env!("CARGO_MANIFEST_DIR")).parent().unwrap();
-    let library = match std::env::var_os("TISHKOLAN_LIBRARY") {
-        Some(path) => PathBuf::from(path),
-        None => root.join("target/staticlib/libtishkolan.a"),
-    };
     println!("cargo:rerun-if-env-changed=TISHKOLAN_LIBRARY");
-    println!("cargo:rerun-if-changed={}", library.display());
-    println!("cargo:rustc-link-arg={}", library.display());
+    let library = std::env::var("TISHKOLAN_LIBRARY").unwrap_or_default();
+    let bytes = std::fs::read(&library).unwrap_or_default();
+    println!("cargo:rerun-if-changed={library}");
+    println!("cargo:rustc-link-arg={library}");
     println!("cargo:rustc-link-arg=-lm");
+    for (group, call) in GROUPS {
+        println!("cargo:rustc-check-cfg=cfg({group})");
+        if bytes
+            .windows(call.len())
+            .any(|name| name == call.as_bytes())
+        {
+            println!("cargo:rustc-cfg={group}");
+        }
+    }
 }

@@ -337,6 +337,46 @@ tishkolan_length_answer tishkolan_survey_write(const uint8_t *flags, size_t flag
                                                const uint8_t *values, size_t values_length, size_t values_count,
                                                uint8_t *out, size_t out_length);
 
+/* ---- the route checker.
+ * A route is a list of cells, 16 bytes each; its cost is the sum of its steps as doubles, from 0.0,
+ * in route order, and is claimed by its 64 bits. The verdict depends on what is handed to this very
+ * call and on nothing else. */
+
+/* The rule: whether blocked cells are avoided. Another number is BAD_RULE. */
+enum { TISHKOLAN_FREE = 0, TISHKOLAN_AVOIDING = 1 };
+
+/* The verdicts: 0, or BAD_LIST, BAD_LAYER, BAD_RULE, or one of these; the first that fits. */
+enum {
+    TISHKOLAN_ACCEPTED = 0,
+    TISHKOLAN_EMPTY_ROUTE = 20,
+    TISHKOLAN_WRONG_START = 21,
+    TISHKOLAN_NOT_A_NEIGHBOR = 22, /* a step to a cell that is not one of the 14 around the last one */
+    TISHKOLAN_BLOCKED_CELL = 23,   /* a step into a blocked cell; the start itself is not tested */
+    TISHKOLAN_WRONG_GOAL = 24,
+    TISHKOLAN_WRONG_COST = 25
+};
+
+/* The verdict on a route from start to goal, under a rule and a flag layer. */
+uint32_t tishkolan_route_verdict(const uint8_t *route, size_t route_length,
+                                 const uint8_t *start, size_t start_length,
+                                 const uint8_t *goal, size_t goal_length, uint64_t cost,
+                                 const uint8_t *flags, size_t flags_length, size_t flags_count,
+                                 uint32_t rule);
+
+/* What the loop flies: the sent route, the homing route, or neither. */
+enum { TISHKOLAN_NEITHER = 0, TISHKOLAN_SENT = 1, TISHKOLAN_HOMING = 2 };
+
+/* SENT if the sent route is accepted, else HOMING if that one is, else NEITHER. Each is judged with
+ * its own ends and claimed cost, both under one rule and layer. */
+uint32_t tishkolan_route_choice(const uint8_t *sent, size_t sent_length,
+                                const uint8_t *sent_start, size_t sent_start_length,
+                                const uint8_t *sent_goal, size_t sent_goal_length, uint64_t sent_cost,
+                                const uint8_t *homing, size_t homing_length,
+                                const uint8_t *homing_start, size_t homing_start_length,
+                                const uint8_t *homing_goal, size_t homing_goal_length, uint64_t homing_cost,
+                                const uint8_t *flags, size_t flags_length, size_t flags_count,
+                                uint32_t rule);
+
 #ifdef __cplusplus
 }
 #endif

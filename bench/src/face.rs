@@ -47,6 +47,38 @@ pub struct FieldsAnswer {
     pub z: i32,
 }
 
+#[repr(C)]
+#[derive(Clone, Copy)]
+pub struct CountAnswer {
+    pub refusal: Refusal,
+    pub count: u64,
+}
+
+#[repr(C)]
+#[derive(Clone, Copy)]
+pub struct KeptAnswer {
+    pub refusal: Refusal,
+    pub found: u32,
+    pub kept: u64,
+    pub count: u64,
+}
+
+#[repr(C)]
+#[derive(Clone, Copy)]
+pub struct LoadAnswer {
+    pub refusal: Refusal,
+    pub place: u64,
+    pub flags: u64,
+    pub values: u64,
+}
+
+#[repr(C)]
+#[derive(Clone, Copy)]
+pub struct LengthAnswer {
+    pub refusal: Refusal,
+    pub length: u64,
+}
+
 #[rustfmt::skip]
 extern "C" {
     pub fn tishkolan_square_root(bits: u64) -> BitsAnswer;
@@ -63,4 +95,17 @@ extern "C" {
     pub fn tishkolan_cell_parent(cell: *const u8, length: usize, out: *mut u8, out_length: usize) -> Refusal;
     pub fn tishkolan_cell_distance(first: *const u8, length: usize, second: *const u8, second_length: usize) -> BitsAnswer;
     pub fn tishkolan_cell_manhattan_distance(first: *const u8, length: usize, second: *const u8, second_length: usize) -> NumberAnswer;
+
+    pub fn tishkolan_flags_set(table: *mut u8, length: usize, count: usize, cell: *const u8, cell_length: usize, flags: u32) -> CountAnswer;
+    pub fn tishkolan_flags_get(table: *const u8, length: usize, count: usize, cell: *const u8, cell_length: usize) -> KeptAnswer;
+    pub fn tishkolan_flags_contains(table: *const u8, length: usize, count: usize, cell: *const u8, cell_length: usize) -> NumberAnswer;
+    pub fn tishkolan_flags_count(table: *const u8, length: usize, count: usize) -> CountAnswer;
+    pub fn tishkolan_values_set(table: *mut u8, length: usize, count: usize, cell: *const u8, cell_length: usize, bits: u64) -> CountAnswer;
+    pub fn tishkolan_values_get(table: *const u8, length: usize, count: usize, cell: *const u8, cell_length: usize) -> KeptAnswer;
+    pub fn tishkolan_values_contains(table: *const u8, length: usize, count: usize, cell: *const u8, cell_length: usize) -> NumberAnswer;
+    pub fn tishkolan_values_count(table: *const u8, length: usize, count: usize) -> CountAnswer;
+    pub fn tishkolan_values_aggregate(table: *const u8, length: usize, count: usize, cells: *const u8, cells_length: usize, how: u32) -> BitsAnswer;
+    pub fn tishkolan_values_rollup(fine: *const u8, length: usize, count: usize, how: u32, coarse: *mut u8, coarse_length: usize, coarse_count: usize) -> CountAnswer;
+    pub fn tishkolan_survey_load(file: *const u8, length: usize, flags: *mut u8, flags_length: usize, flags_count: usize, values: *mut u8, values_length: usize, values_count: usize) -> LoadAnswer;
+    pub fn tishkolan_survey_write(flags: *const u8, flags_length: usize, flags_count: usize, values: *const u8, values_length: usize, values_count: usize, out: *mut u8, length: usize) -> LengthAnswer;
 }

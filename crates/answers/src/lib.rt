@@ -1,6 +1,6 @@
 // The Rust oracle's answers, replayed: a list of records, each with a call of the C face, its arguments and what the oracle said to them.
 // The call is made anew and must say the same. vectors/src/main.rs has the format of a record and the numbers of the calls.
-ghost use Prim.Native.Nat.{_+_, _≤_, _<_};
+ghost use Prim.Native.Nat.{_+_, _/_, _≤_, _<_};
 ghost use lib.ListN.{length};
 ghost use Rattle.answers.specs.Counted.{Counted};
 use cell::twos;
@@ -13,6 +13,8 @@ use tishkolan::told::FieldsTold;
 use tishkolan::told::NumberTold;
 use tishkolan::told::PointTold;
 use tishkolan::told::RefusalTold;
+
+pub mod layers;
 
 // What a lent buffer holds before a call, and still holds where the call has nothing to write.
 const UNTOUCHED: u8 = 0xA5;
@@ -467,26 +469,53 @@ fn agrees_at(list: &[u8], at: usize) -> bool
     agrees(&record)
 }
 
-// Replays each record of the list. A rest that is no whole record is left out.
-pub fn replay(list: &[u8]) -> Tally
-    ensures { λ t. ⌜ Counted (length (now (list .entry))) t ⌝ }
+// The tally of no record.
+fn nothing() -> Tally
+    ensures { λ t. ⌜ Counted 0 t ⌝ }
 {
-    let answers = list.len() / 64;
-    let mut differ = 0;
-    let mut first = 0;
-    let mut i = 0;
-    while i < answers {
-        if !agrees_at(list, 64 * i) {
-            if differ == 0 {
-                first = i;
-            }
-            differ += 1;
-        }
-        i += 1;
+    Tally {
+        answers: 0,
+        differ: 0,
+        first: 0,
+    }
+}
+
+// The tally with one record more.
+fn tallied(tally: Tally, agrees: bool) -> Tally
+    requires { ⌜ tally .answers + 1 < 18446744073709551616 ⌝ }
+    requires { ⌜ Counted (tally .answers) tally ⌝ }
+    ensures { λ t. ⌜ Counted (tally .answers + 1) t ⌝ }
+{
+    let answers = tally.answers + 1;
+    if agrees {
+        return Tally {
+            answers,
+            differ: tally.differ,
+            first: tally.first,
+        };
+    }
+    if tally.differ == 0 {
+        return Tally {
+            answers,
+            differ: 1,
+            first: tally.answers,
+        };
     }
     Tally {
         answers,
-        differ,
-        first,
+        differ: tally.differ + 1,
+        first: tally.first,
     }
+}
+
+// Replays each record of the list. A rest that is no whole record is left out.
+pub fn replay(list: &[u8]) -> Tally
+    ensures { λ t. ⌜ Counted (length (now (list .entry)) / 64) t ⌝ }
+{
+    let records = list.len() / 64;
+    let mut tally = nothing();
+    while tally.answers < records {
+        tally = tallied(tally, agrees_at(list, 64 * tally.answers));
+    }
+    tally
 }

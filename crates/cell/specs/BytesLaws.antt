@@ -1,21 +1,23 @@
--- What follows from the definitions of a cell's bytes: a cell and its 16 bytes make each other again, alone and within a longer list, and cells are ordered as their bytes
--- are. Assumes nothing.
+-- What follows from the definitions of a cell's bytes: a cell and its 16 bytes make each other again, alone and within a longer list, cells are ordered as their bytes
+-- are, and a list of cells has them at every sixteenth byte. Assumes nothing.
 use mathlib.Core.Path.{_≡_, refl, sym, ap, ap₂, _∙_}
 use mathlib.Core.Bool.{Bool, cond}
 use mathlib.Core.List.{List, [], _∷_, _++_, append-assoc, append-nil}
-use Prim.Native.Nat.{ℕ, suc, _+_, _*_, _^_, _≤_}
+use Prim.Native.Nat.{ℕ, zero, suc, _+_, _*_, _/_, _^_, _≤_, _<_}
 use native.Mathlib.Nat.{mul-comm}
 use native.Mathlib.Omega.{arith}
 use borrow.Author.Tests.{eq-eqb, le-ltb}
 use lib.Dec.{eqb, ltb}
-use lib.ListN.{length, take, drop, replicate, drop-of-length-le}
+use lib.ListN.{length, take, drop, getD, replicate, drop-of-length-le}
 use lib.Seq.{take-all, take-add, drop-drop, sets-eq}
 use Rattle.refusal.specs.declared.Cell.{Cell}
 use Rattle.refusal.specs.Table.{rawOf}
 use Rattle.words.specs.Word.{big, number, ordered, word, stored, Bytes, Apart}
 use Rattle.words.specs.Laws.{length-stored, word-stored, word-stored-apart, bytesOf-part, word-drop, word-lt, word-split-big}
+use Rattle.lattice.specs.Tables.{Each}
 use Rattle.cell.specs.declared.CellAnswer.the-variants.{Is}
 use Rattle.cell.specs.Bytes.{cellAt, cellBytes, cellStored, fromBytesOf, bytesLess}
+use Rattle.cell.specs.Lists.{cellsFrom, cellsOf}
 use Rattle.cell.specs.Stored.{length-cellBytes}
 use Rattle.cell.specs.Cell.{lessCell}
 use Rattle.cell.specs.Stored as bytes
@@ -63,6 +65,11 @@ cell-stored-apart l p c q h = λ i. record { high = kept q (omega arith) (omega 
 pub sixteen-bytes : (l : List ℕ) → length l ≡ 16 → fromBytesOf l ≡ Is (cellAt l 0)
 unfolding fromBytesOf
 sixteen-bytes l e = rw (eq-eqb (length l) 16 e)
+
+-- a cell that was read is two words of 64 bits
+pub cell-words : (l : List ℕ) (p : ℕ) → Bytes l → Words (cellAt l p)
+unfolding cellAt
+cell-words l p b = record { high-word = word-lt big 8 l p b; low-word = word-lt big 8 l (p + 8) b }
 
 -- read after write
 pub bytes-read-back : (c : Cell) → Words c → fromBytesOf (cellBytes c) ≡ Is c
@@ -121,3 +128,36 @@ order-bytes l m e f g h =
     ap₂ ltb (raw-word l e) (raw-word m f)
     ∙ ap (λ (n : ℕ). ltb (word big n l 0) (word big n m 0)) (sym e)
     ∙ words-ordered l m (f ∙ sym e) g h
+
+-- ---- a list of cells
+
+cells-from-words : (l : List ℕ) (i n : ℕ) → Bytes l → Each Words (cellsFrom l i n)
+unfolding cellsFrom
+cells-from-words l i zero b = tt
+cells-from-words l i (suc n) b = (cell-words l (16 * i) b, cells-from-words l (suc i) n b)
+
+-- so is each cell of a list
+pub cells-words : (l : List ℕ) → Bytes l → Each Words (cellsOf l)
+unfolding cellsOf
+cells-words l b = cells-from-words l 0 (length l / 16) b
+
+length-cells-from : (l : List ℕ) (i n : ℕ) → length (cellsFrom l i n) ≡ n
+unfolding cellsFrom
+length-cells-from l i zero = refl
+length-cells-from l i (suc n) = ap suc (length-cells-from l (suc i) n)
+
+-- a list has a sixteenth as many cells as bytes
+pub length-cells : (l : List ℕ) → length (cellsOf l) ≡ length l / 16
+unfolding cellsOf
+length-cells l = length-cells-from l 0 (length l / 16)
+
+cell-from-index : (l : List ℕ) (i n k : ℕ) (d : Cell) → k < n → getD (cellsFrom l i n) k d ≡ cellAt l (16 * (i + k))
+unfolding cellsFrom
+cell-from-index l i zero k d h = absurd (omega arith)
+cell-from-index l i (suc n) zero d h = ap (λ (j : ℕ). cellAt l (16 * j)) (omega arith)
+cell-from-index l i (suc n) (suc k) d h = cell-from-index l (suc i) n k d (omega arith) ∙ ap (λ (j : ℕ). cellAt l (16 * j)) (omega arith)
+
+-- the cell at an index of it
+pub cell-at-index : (l : List ℕ) (i : ℕ) (d : Cell) → i < length l / 16 → getD (cellsOf l) i d ≡ cellAt l (16 * i)
+unfolding cellsOf
+cell-at-index l i d h = cell-from-index l 0 (length l / 16) i d h ∙ ap (λ (j : ℕ). cellAt l (16 * j)) (omega arith)

@@ -46,3 +46,21 @@ rowOf BadRule = row 15 []
 
 abbrev pub numberOf : Refusal → ℕ
 numberOf r = rowOf r .number
+
+-- the byte place of refusal 12; the others have none
+abbrev pub placeOf : Refusal → ℕ
+placeOf (InvalidParity c) = 0
+placeOf NoParent = 0
+placeOf NoChildren = 0
+placeOf OutOfRange = 0
+placeOf NoValues = 0
+placeOf HasNan = 0
+placeOf (SearchLimitExceeded s) = 0
+placeOf (NoPathFound e) = 0
+placeOf CoordOverflow = 0
+placeOf (NoRoom r) = 0
+placeOf BadWorkspace = 0
+placeOf (BadFile p) = p
+placeOf BadList = 0
+placeOf BadLayer = 0
+placeOf BadRule = 0

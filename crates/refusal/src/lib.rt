@@ -1,6 +1,6 @@
 // What a call answers when it has no answer: the fifteen refusals of the scope document, with what each carries.
 ghost use mathlib.Core.Path.{_≡_};
-ghost use Rattle.refusal.specs.Table.{numberOf, roomOf};
+ghost use Rattle.refusal.specs.Table.{numberOf, roomOf, placeOf};
 
 // A place of the lattice. It is a lattice point where its coordinates are all even or all odd.
 pub struct Coord {
@@ -97,5 +97,15 @@ pub fn number(r: Refusal) -> u32
         Refusal::BadList => 13,
         Refusal::BadLayer => 14,
         Refusal::BadRule => 15,
+    }
+}
+
+// The byte place that a refused file is told, 0 with a refusal that has none.
+pub fn place(r: Refusal) -> u64
+    ensures { λ p. ⌜ p ≡ placeOf r ⌝ }
+{
+    match r {
+        Refusal::BadFile(p) => p,
+        _ => 0,
     }
 }

@@ -7,3 +7,4 @@ pub mod OneAnswer
 pub mod OneAnswerCells
 pub mod OneAnswerLayers
 pub mod KnownPoints
+pub mod OneAnswerRoutes

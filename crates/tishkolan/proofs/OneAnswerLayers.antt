@@ -1,5 +1,5 @@
--- Two answers that meet a call's contract agree, and so does what they leave in the memory that was lent to them: the calls on layers and on the flags of a cell. Assumes nothing.
-use mathlib.Core.Path.{sym, _∙_}
+-- Two answers that meet a call's contract agree, and so does what they leave in the memory that was lent to them: the calls on layers, on the flags of a cell and on survey files. Assumes nothing.
+use mathlib.Core.Path.{sym, ap, _∙_}
 use denote.Ref.{at-last}
 use Rattle.tishkolan.proofs.flags.tishkolan_has_flag.Kinds as has-flag-kinds
 use Rattle.tishkolan.proofs.flags.tishkolan_has_flag.Reads as has-flag
@@ -41,8 +41,17 @@ use Rattle.tishkolan.proofs.layers.tishkolan_values_clear.Kinds as valu
 use Rattle.tishkolan.proofs.layers.tishkolan_values_clear.Reads as values-clear
 use Rattle.tishkolan.proofs.layers.tishkolan_values_list.Kinds as values-list-kinds
 use Rattle.tishkolan.proofs.layers.tishkolan_values_list.Reads as values-list
+use Rattle.tishkolan.proofs.aggregates.tishkolan_values_aggregate.Kinds as values-aggregate-kinds
+use Rattle.tishkolan.proofs.aggregates.tishkolan_values_aggregate.Reads as values-aggregate
+use Rattle.tishkolan.proofs.aggregates.tishkolan_values_rollup.Kinds as values-rollup-kinds
+use Rattle.tishkolan.proofs.aggregates.tishkolan_values_rollup.Reads as values-rollup
+use Rattle.tishkolan.proofs.surveys.tishkolan_survey_load.Kinds as survey-load-kinds
+use Rattle.tishkolan.proofs.surveys.tishkolan_survey_load.Reads as survey-load
+use Rattle.tishkolan.proofs.surveys.tishkolan_survey_write.Kinds as survey-write-kinds
+use Rattle.tishkolan.proofs.surveys.tishkolan_survey_write.Reads as survey-write
 use Rattle.refusal.specs.OneAnswer.{OneAnswer, OneExit}
 use Rattle.layer.specs.ChangeLaws.{same-said, same-bytes}
+use Rattle.tishkolan.specs.Surveys.{LoadingTold}
 
 -- ---- the flags of a cell
 
@@ -127,3 +136,27 @@ values-list-one κs a z z′ e e′ p q = same-said p q
 
 pub values-list-exit : OneExit 2 values-list-kinds.ps values-list-kinds.r values-list.Post
 values-list-exit κs a z z′ last last′ p q = λ i. (a .0, (a .1 .0, (at-last (a .1 .1 .0) (same-bytes p q i), tt)))
+
+pub values-aggregate-one : OneAnswer 2 values-aggregate-kinds.ps values-aggregate-kinds.r values-aggregate.Post
+values-aggregate-one κs a z z′ e e′ p q = p ∙ sym q
+
+pub values-rollup-one : OneAnswer 2 values-rollup-kinds.ps values-rollup-kinds.r values-rollup.Post
+values-rollup-one κs a z z′ e e′ p q = same-said p q
+
+pub values-rollup-exit : OneExit 2 values-rollup-kinds.ps values-rollup-kinds.r values-rollup.Post
+values-rollup-exit κs a z z′ last last′ p q = λ i. (a .0, (a .1 .0, (a .1 .1 .0, (at-last (a .1 .1 .1 .0) (same-bytes p q i), (a .1 .1 .1 .1 .0, tt)))))
+
+-- ---- survey files
+
+pub survey-load-one : OneAnswer 3 survey-load-kinds.ps survey-load-kinds.r survey-load.Post
+survey-load-one κs a z z′ e e′ p q = ap (λ (g : LoadingTold). g .told) (p ∙ sym q)
+
+pub survey-load-exit : OneExit 3 survey-load-kinds.ps survey-load-kinds.r survey-load.Post
+survey-load-exit κs a z z′ last last′ p q =
+    λ i. (a .0, (at-last (a .1 .0) (ap (λ (g : LoadingTold). g .flags) (p ∙ sym q) i), (a .1 .1 .0, (at-last (a .1 .1 .1 .0) (ap (λ (g : LoadingTold). g .values) (p ∙ sym q) i), (a .1 .1 .1 .1 .0, tt)))))
+
+pub survey-write-one : OneAnswer 3 survey-write-kinds.ps survey-write-kinds.r survey-write.Post
+survey-write-one κs a z z′ e e′ p q = same-said p q
+
+pub survey-write-exit : OneExit 3 survey-write-kinds.ps survey-write-kinds.r survey-write.Post
+survey-write-exit κs a z z′ last last′ p q = λ i. (a .0, (a .1 .0, (a .1 .1 .0, (a .1 .1 .1 .0, (at-last (a .1 .1 .1 .1 .0) (same-bytes p q i), tt)))))

@@ -2,3 +2,5 @@ pub mod Told
 pub mod Points
 pub mod Cells
 pub mod Layers
+pub mod Aggregates
+pub mod Surveys

@@ -15,7 +15,7 @@ use layer::FlagsAnswer;
 use layer::ValueAnswer;
 use refusal::Refusal;
 
-fn of_count(given: usize, a: CountAnswer) -> CountTold
+pub fn of_count(given: usize, a: CountAnswer) -> CountTold
     ensures { λ t. ⌜ t ≡ ofCount given a ⌝ }
 {
     match a {
@@ -63,22 +63,22 @@ fn no_kept(r: Refusal, count: usize) -> KeptTold
     }
 }
 
-// The count is the given one, but another where the cell was found.
-fn of_flags_kept(given: usize, where_found: usize, a: FlagsAnswer) -> KeptTold
-    ensures { λ t. ⌜ t ≡ ofFlagsKept given where_found a ⌝ }
+// The count is the given one, and what is left of it where the cell was found.
+fn of_flags_kept(given: usize, left: usize, a: FlagsAnswer) -> KeptTold
+    ensures { λ t. ⌜ t ≡ ofFlagsKept given left a ⌝ }
 {
     match a {
-        FlagsAnswer::Flags(k) => kept(k as u64, where_found),
+        FlagsAnswer::Flags(k) => kept(k as u64, left),
         FlagsAnswer::Nothing => missing(given),
         FlagsAnswer::Refused(r) => no_kept(r, given),
     }
 }
 
-fn of_value_kept(given: usize, where_found: usize, a: ValueAnswer) -> KeptTold
-    ensures { λ t. ⌜ t ≡ ofValueKept given where_found a ⌝ }
+fn of_value_kept(given: usize, left: usize, a: ValueAnswer) -> KeptTold
+    ensures { λ t. ⌜ t ≡ ofValueKept given left a ⌝ }
 {
     match a {
-        ValueAnswer::Bits(k) => kept(k, where_found),
+        ValueAnswer::Bits(k) => kept(k, left),
         ValueAnswer::Nothing => missing(given),
         ValueAnswer::Refused(r) => no_kept(r, given),
     }

@@ -1,6 +1,9 @@
 // The C face: every public call, exported on numbers and byte slices. include/tishkolan.h declares what stands here.
+pub mod aggregates;
 pub mod cells;
 pub mod flags;
 pub mod layers;
 pub mod points;
+pub mod routes;
+pub mod surveys;
 pub mod told;

@@ -80,6 +80,22 @@ pub struct KeptTold {
     pub count: u64,
 }
 
+// The place of the first byte of a file that is wrong, and the counts of both layers after the call.
+#[repr(C)]
+pub struct LoadTold {
+    pub refusal: RefusalTold,
+    pub place: u64,
+    pub flags: u64,
+    pub values: u64,
+}
+
+// The bytes that a file takes.
+#[repr(C)]
+pub struct LengthTold {
+    pub refusal: RefusalTold,
+    pub length: u64,
+}
+
 const NOWHERE: Coord = Coord { x: 0, y: 0, z: 0 };
 
 fn telling(number: u32, room: u32, place: Coord) -> RefusalTold

@@ -1,2 +1,3 @@
 pub mod Four
+pub mod One
 pub mod Points

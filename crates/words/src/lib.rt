@@ -1,4 +1,4 @@
-// Words of 32 and 64 bits in bytes that a caller lends, in both byte orders: the survey file, the layers and the ids are
+// Words of 16, 32 and 64 bits in bytes that a caller lends, in both byte orders: the survey file, the layers and the ids are
 // big-endian, workspaces little-endian. Each is written so that LLVM makes one load or one store of it.
 ghost use mathlib.Core.Path.{_≡_};
 ghost use Prim.Native.Nat.{_+_, _*_, _≤_, _<_};
@@ -19,6 +19,14 @@ fn joined(a: u8, b: u8, c: u8, d: u8) -> u32
     ensures { λ r. ⌜ (r ≡ ((d * 256 + c) * 256 + b) * 256 + a) × (r < 4294967296) ⌝ }
 {
     ((wide(d) * 256 + wide(c)) * 256 + wide(b)) * 256 + wide(a)
+}
+
+// The big-endian word of 16 bits at `at`.
+pub fn read16_big(s: &[u8], at: usize) -> u32
+    requires { ⌜ at + 2 ≤ length (now s) ⌝ }
+    ensures { λ r. ⌜ (r ≡ word big 2 (now (s .entry)) at) × (r < 65536) ⌝ }
+{
+    joined(s[at + 1], s[at], 0, 0)
 }
 
 // The big-endian word of 32 bits at `at`.
@@ -66,6 +74,17 @@ fn put4(s: &mut [u8], at: usize, a: u8, b: u8, c: u8, d: u8)
     s[at + 1] = b;
     s[at + 2] = c;
     s[at + 3] = d;
+}
+
+// Stores the lower 16 bits of `value` at `at` as a big-endian word.
+pub fn write16_big(s: &mut [u8], at: usize, value: u32)
+    requires { ⌜ at + 2 ≤ length (now s) ⌝ }
+    ensures { λ _. ⌜ now (s .exit) ≡ stored big 2 (now (s .entry)) at value ⌝ }
+{
+    let a = (value % 256) as u8;
+    let b = (value / 256 % 256) as u8;
+    s[at] = b;
+    s[at + 1] = a;
 }
 
 // Stores `value` at `at` as a big-endian word of 32 bits.

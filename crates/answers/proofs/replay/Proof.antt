@@ -1,16 +1,18 @@
--- No more calls differ than were made, and the first that differs is one of these.
+-- Each turn counts one record of the list.
 use borrow.Author.Needs.{needs}
-use native.Mathlib.Omega.{arith}
-use mathlib.Core.Logic.{⊎-elim}
 use Prim.Native.Nat.{_≤_, _-_}
+use Rattle.answers.specs.Counted.{Counted}
 use Rattle.answers.proofs.replay.Statement.{statement}
 use Rattle.answers.proofs.replay.Tie as tie
 
 abbrev Inv-loop : tie.InvT-loop
-Inv-loop list answers differ₀ first₀ i₀ differ first i = (i ≤ answers) × ((differ ≤ i) × (first ≤ i))
+Inv-loop list records tally₀ tally = (tally .answers ≤ records) × Counted (tally .answers) tally
 
 abbrev μ-loop : tie.MeasureT-loop
-μ-loop list answers differ₀ first₀ i₀ differ first i = answers - i
+μ-loop list records tally₀ tally = records - tally .answers
+
+nothing-requires : tie.Need-nothing-requires Inv-loop μ-loop
+nothing-requires c κs = search needs
 
 loop-holds : tie.Need-loop-holds Inv-loop μ-loop
 loop-holds c = search needs
@@ -21,17 +23,14 @@ mul-agrees-at c = search needs
 agrees-at-requires : tie.Need-agrees-at-requires Inv-loop μ-loop
 agrees-at-requires c κs = search needs
 
-add-differ : tie.Need-add-differ Inv-loop μ-loop
-add-differ c = search needs
-
-add-i : tie.Need-add-i Inv-loop μ-loop
-add-i c = search needs
+tallied-requires : tie.Need-tallied-requires Inv-loop μ-loop
+tallied-requires c κs = search needs
 
 loop-less : tie.Need-loop-less Inv-loop μ-loop
 loop-less c = search needs
 
 loop-again : tie.Need-loop-again Inv-loop μ-loop
-loop-again c = ⊎-elim (λ w. ⊎-elim (λ v. omega arith) (λ v. omega arith) (w .1 .came)) (λ w. omega arith) (c .if1 .came)
+loop-again c = search needs
 
 returns : tie.Need-returns Inv-loop μ-loop
 returns c = search needs
@@ -42,11 +41,11 @@ replay-spec =
     (tie.spec
     Inv-loop
     μ-loop
+    nothing-requires
     loop-holds
     mul-agrees-at
     agrees-at-requires
-    add-differ
-    add-i
+    tallied-requires
     loop-less
     loop-again
     returns)

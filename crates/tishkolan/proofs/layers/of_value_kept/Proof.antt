@@ -26,17 +26,17 @@ no-kept-requires c κs = search needs
 returns : tie.Need-returns
 returns c =
     let args = c .before .before .before .before .args in
-    c .kept .ensures ∙ sym (ap (ofValueKept (args .given) (args .where-found)) (c .before .before .a .given .1))
+    c .kept .ensures ∙ sym (ap (ofValueKept (args .given) (args .left)) (c .before .before .a .given .1))
 
 returns-2 : tie.Need-returns-2
 returns-2 c =
     let args = c .before .before .before .args in
-    c .missing .ensures ∙ sym (ap (ofValueKept (args .given) (args .where-found)) (c .before .enum-told .given .1))
+    c .missing .ensures ∙ sym (ap (ofValueKept (args .given) (args .left)) (c .before .enum-told .given .1))
 
 returns-3 : tie.Need-returns-3
 returns-3 c =
     let args = c .before .before .before .before .args in
-    c .no-kept .ensures ∙ sym (ap (ofValueKept (args .given) (args .where-found)) (c .before .before .a2 .given .1))
+    c .no-kept .ensures ∙ sym (ap (ofValueKept (args .given) (args .left)) (c .before .before .a2 .given .1))
 
 pub of-value-kept-spec : {M : Type 1} → statement M
 of-value-kept-spec =

@@ -1,0 +1,24 @@
+-- A byte times a place of at most 192 is below 192 * 256.
+use borrow.Author.Needs.{needs}
+use native.Mathlib.Omega.{arith}
+use native.Mathlib.Nat.{mul-le-mul}
+use Prim.Native.Nat.{ℕ, _+_, _*_, _<_, _≤_}
+use Rattle.answers.proofs.layers.weighed.Statement.{statement}
+use Rattle.answers.proofs.layers.weighed.Tie as tie
+
+weight-below : (place byte : ℕ) → place < 192 → byte < 256 → (place + 1) * byte < 49152
+weight-below place byte p b =
+    let most : (place + 1) * byte ≤ 192 * 255 = mul-le-mul {n₂ = 192} {m₂ = 255} (omega arith) (omega arith) in
+    omega arith
+
+add-result : tie.Need-add-result
+add-result c = search needs
+
+mul-result : tie.Need-mul-result
+mul-result c = omega (arith, weight-below (c .args .place) (c .args .byte) (search needs) (search needs))
+
+returns : tie.Need-returns
+returns c = weight-below (c .args .place) (c .args .byte) (search needs) (search needs)
+
+pub weighed-spec : {M : Type 1} → statement M
+weighed-spec = tie.close (tie.spec add-result mul-result returns)

@@ -1,0 +1,246 @@
+// The Rust oracle's answers on layers, replayed: each record is a call on one of three tables of 8 records, which are kept from call to call.
+// vectors/src/layers.rs has the format of a record and the numbers of the calls.
+ghost use Prim.Native.Nat.{_/_, _≤_, _<_};
+ghost use lib.ListN.{length};
+ghost use Rattle.answers.specs.Counted.{Counted};
+use crate::Tally;
+use cell::twos;
+use tishkolan::layers;
+use tishkolan::told;
+use tishkolan::told::CountTold;
+use tishkolan::told::KeptTold;
+use tishkolan::told::NumberTold;
+use tishkolan::told::RefusalTold;
+
+// How many records of each table are in use.
+struct Counts {
+    flags: usize,
+    values: usize,
+    coarse: usize,
+}
+
+// Whether a call said what its record expects, and the counts after it.
+struct Replayed {
+    agrees: bool,
+    counts: Counts,
+}
+
+// Calls that the C face does not have yet: their records are skipped.
+const AGGREGATE: u8 = 21;
+
+const ROLLUP: u8 = 22;
+
+// ---- what a call says, told alike of all calls
+
+fn of_count(t: CountTold) -> KeptTold {
+    let refusal = t.refusal;
+    KeptTold {
+        refusal,
+        found: 0,
+        kept: 0,
+        count: t.count,
+    }
+}
+
+// The count stays.
+fn of_contained(count: usize, t: NumberTold) -> KeptTold {
+    let refusal = t.refusal;
+    KeptTold {
+        refusal,
+        found: twos::bits_of(t.value),
+        kept: 0,
+        count: count as u64,
+    }
+}
+
+fn cleared() -> KeptTold {
+    KeptTold {
+        refusal: told::answered(),
+        found: 0,
+        kept: 0,
+        count: 0,
+    }
+}
+
+// ---- whether what is told is what the record expects
+
+// No refusal of these calls carries coordinates.
+fn same_refusal(record: &[u8; 64], told: RefusalTold) -> bool {
+    told.number == crate::wide(record[2])
+        && told.room == crate::wide(record[3])
+        && told.x == 0
+        && told.y == 0
+        && told.z == 0
+}
+
+fn same_kept(record: &[u8; 64], told: KeptTold) -> bool {
+    same_refusal(record, told.refusal)
+        && told.found == crate::wide(record[4])
+        && told.kept == crate::bits(record, 32)
+        && told.count == crate::bits(record, 40)
+}
+
+fn weighed(place: usize, byte: u8) -> u64
+    requires { ⌜ place < 192 ⌝ }
+    ensures { λ r. ⌜ r < 49152 ⌝ }
+{
+    (place as u64 + 1) * (byte as u64)
+}
+
+// A number that tells tables apart: each byte times its place, counted from 1.
+fn check_number(table: &[u8]) -> u64
+    requires { ⌜ length (now table) ≤ 192 ⌝ }
+{
+    let mut sum = 0;
+    let mut i = 0;
+    while i < table.len() {
+        sum += weighed(i, table[i]);
+        i += 1;
+    }
+    sum
+}
+
+fn same_table(record: &[u8; 64], table: &[u8]) -> bool
+    requires { ⌜ length (now table) ≤ 192 ⌝ }
+{
+    check_number(table) == crate::bits(record, 48)
+}
+
+// ---- the calls
+
+fn cell(record: &[u8; 64]) -> &[u8] {
+    crate::slice(record, 8, 16)
+}
+
+fn flags_call(record: &[u8; 64], table: &mut [u8; 160], count: usize) -> KeptTold {
+    let call = record[0];
+    match call {
+        1 => of_count(layers::tishkolan_flags_set(
+            table,
+            count,
+            cell(record),
+            words::read32_big(record, 28),
+        )),
+        2 => layers::tishkolan_flags_get(table, count, cell(record)),
+        3 => layers::tishkolan_flags_remove(table, count, cell(record)),
+        4 => of_contained(
+            count,
+            layers::tishkolan_flags_contains(table, count, cell(record)),
+        ),
+        _ => {
+            layers::tishkolan_flags_clear(table);
+            cleared()
+        }
+    }
+}
+
+fn values_call(record: &[u8; 64], table: &mut [u8; 192], count: usize) -> KeptTold {
+    let call = record[0];
+    match call {
+        11 => of_count(layers::tishkolan_values_set(
+            table,
+            count,
+            cell(record),
+            crate::bits(record, 24),
+        )),
+        12 => layers::tishkolan_values_get(table, count, cell(record)),
+        13 => layers::tishkolan_values_remove(table, count, cell(record)),
+        14 => of_contained(
+            count,
+            layers::tishkolan_values_contains(table, count, cell(record)),
+        ),
+        _ => {
+            layers::tishkolan_values_clear(table);
+            cleared()
+        }
+    }
+}
+
+// ---- the list
+
+fn on_flags(record: &[u8; 64], table: &mut [u8; 160], counts: Counts) -> Replayed {
+    let told = flags_call(record, table, counts.flags);
+    Replayed {
+        agrees: same_kept(record, told) && same_table(record, table),
+        counts: Counts {
+            flags: told.count as usize,
+            values: counts.values,
+            coarse: counts.coarse,
+        },
+    }
+}
+
+fn on_values(record: &[u8; 64], table: &mut [u8; 192], counts: Counts) -> Replayed {
+    let told = values_call(record, table, counts.values);
+    Replayed {
+        agrees: same_kept(record, told) && same_table(record, table),
+        counts: Counts {
+            flags: counts.flags,
+            values: told.count as usize,
+            coarse: counts.coarse,
+        },
+    }
+}
+
+// Makes the record's call. What has no call's number agrees with nothing.
+fn replay_record(
+    record: &[u8; 64],
+    flags: &mut [u8; 160],
+    values: &mut [u8; 192],
+    coarse: &mut [u8; 192],
+    counts: Counts,
+) -> Replayed {
+    let call = record[0];
+    match call {
+        1..=5 => on_flags(record, flags, counts),
+        11..=15 => on_values(record, values, counts),
+        AGGREGATE | ROLLUP => Replayed {
+            agrees: true,
+            counts,
+        },
+        _ => Replayed {
+            agrees: false,
+            counts,
+        },
+    }
+}
+
+// How many records of the list are skipped.
+pub fn skipped(list: &[u8]) -> usize
+    ensures { λ r. ⌜ r ≤ length (now (list .entry)) / 64 ⌝ }
+{
+    let records = list.len() / 64;
+    let mut skipped = 0;
+    let mut i = 0;
+    while i < records {
+        let call = list[64 * i];
+        if call == AGGREGATE || call == ROLLUP {
+            skipped += 1;
+        }
+        i += 1;
+    }
+    skipped
+}
+
+// Replays each record of the list, in order. A rest that is no whole record is left out.
+pub fn replay(list: &[u8]) -> Tally
+    ensures { λ t. ⌜ Counted (length (now (list .entry)) / 64) t ⌝ }
+{
+    let records = list.len() / 64;
+    let mut flags = [0; 160];
+    let mut values = [0; 192];
+    let mut coarse = [0; 192];
+    let mut counts = Counts {
+        flags: 0,
+        values: 0,
+        coarse: 0,
+    };
+    let mut tally = crate::nothing();
+    while tally.answers < records {
+        let record = crate::record_at(list, 64 * tally.answers);
+        let made = replay_record(&record, &mut flags, &mut values, &mut coarse, counts);
+        counts = made.counts;
+        tally = crate::tallied(tally, made.agrees);
+    }
+    tally
+}

@@ -1,0 +1,5 @@
+mod Squares
+mod Shut
+mod Parities
+pub mod OneAnswer
+pub mod Points

@@ -1,0 +1,47 @@
+-- The rule decides whether the layer is asked; then what the search found. Assumes nothing.
+use borrow.Author.Needs.{needs}
+use Rattle.layer.specs.Layer.{rowsOf}
+use Rattle.route.proofs.Shut.{found, missing, not-asked, found-within}
+use Rattle.route.proofs.is_shut.Statement.{statement}
+use Rattle.route.proofs.is_shut.Tie as tie
+
+find-requires : tie.Need-find-requires
+find-requires c κs = search needs
+
+enum-known-place : tie.Need-enum-known-place
+enum-known-place c = search needs
+
+kept-at-requires : tie.Need-kept-at-requires
+kept-at-requires c κs =
+    let start = c .before .before .before .before .before .before in
+    (search needs, found-within (start .args .flags .now) (start .args .count) (start .args .c) _ (start .pre) (c .before .before .before .find .ensures) (c .before .place .given .1))
+
+enum-known-place-2 : tie.Need-enum-known-place-2
+enum-known-place-2 c = search needs
+
+returns : tie.Need-returns
+returns c =
+    let search = c .before .before .before .before in
+    let start = search .before .before .before in
+    found (start .args .flags .now) (start .args .count) (start .args .c) (search .before .if1 .taken) (search .find .ensures) _ (start .pre) (c .before .before .place .given .1) (c .kept-at .ensures)
+
+returns-2 : tie.Need-returns-2
+returns-2 c =
+    let search = c .before .before .before in
+    let start = search .before .before .before in
+    missing (start .args .flags .now) (start .args .count) (start .args .c) (search .before .if1 .taken) (search .find .ensures) _ (c .before .place2 .given .1)
+
+returns-3 : tie.Need-returns-3
+returns-3 c = let args = c .before .before .args in not-asked (rowsOf 20 (args .flags .now) (args .count)) (args .c) (c .if1 .left)
+
+pub is-shut-spec : {M : Type 1} → statement M
+is-shut-spec =
+    tie.close
+    (tie.spec
+    find-requires
+    enum-known-place
+    kept-at-requires
+    enum-known-place-2
+    returns
+    returns-2
+    returns-3)

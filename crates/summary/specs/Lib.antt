@@ -1,0 +1,5 @@
+pub mod Summary
+pub mod Written
+pub mod Decimals
+pub mod Reported
+pub mod Longer

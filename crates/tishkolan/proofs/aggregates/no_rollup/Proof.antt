@@ -1,0 +1,20 @@
+-- The layer is tested first. Assumes nothing.
+use borrow.Author.Needs.{needs}
+use mathlib.Core.Path.{sym, _∙_}
+use Rattle.tishkolan.specs.Aggregates.{noRollup}
+use Rattle.tishkolan.proofs.aggregates.no_rollup.Statement.{statement}
+use Rattle.tishkolan.proofs.aggregates.no_rollup.Tie as tie
+
+is-sound-requires : tie.Need-is-sound-requires
+is-sound-requires c κs = search needs
+
+returns : tie.Need-returns
+unfolding noRollup
+returns c = rw (sym (c .before .is-sound .ensures) ∙ c .if1 .taken)
+
+returns-2 : tie.Need-returns-2
+unfolding noRollup
+returns-2 c = rw (sym (c .before .is-sound .ensures) ∙ c .if1 .left)
+
+pub no-rollup-spec : {M : Type 1} → statement M
+no-rollup-spec = tie.close (tie.spec is-sound-requires returns returns-2)
