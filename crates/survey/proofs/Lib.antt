@@ -1,7 +1,7 @@
 pub mod Front
 pub mod Whole
 pub mod Keeping
-pub mod Numbered
+pub mod Lasts
 pub mod Replaced
 pub mod OneAnswer
 pub mod Points
