@@ -5,6 +5,7 @@
 
 use original::id::CellID;
 use original::lattice::{Lattice, LatticeCoord};
+use original::layer::{Aggregation, Layer};
 use original::path::{astar_with_limit, EuclideanCost};
 use std::panic::catch_unwind;
 
@@ -84,4 +85,25 @@ fn ties_fall_as_the_heap_has_them() {
     let limited = |limit| astar_with_limit(plain(0, 0, 0), plain(2, 2, 0), &EuclideanCost, limit);
     assert!(limited(3).is_err());
     assert!(limited(4).is_ok());
+}
+
+#[test]
+fn layers_have_no_limit() {
+    let mut layer = Layer::new("layer");
+    for i in 0..1025 {
+        layer.set(plain(2 * i, 0, 0), 0u32);
+    }
+    assert_eq!(layer.len(), 1025);
+}
+
+#[test]
+fn sums_begin_at_minus_zero_and_make_nans() {
+    let mut layer = Layer::new("layer");
+    let cells = [plain(0, 0, 0), plain(2, 0, 0)];
+    layer.set(cells[0], -0.0);
+    let sum = layer.aggregate(&cells, Aggregation::Sum).unwrap();
+    assert_eq!(sum.to_bits(), (-0.0f64).to_bits());
+    layer.set(cells[0], f64::INFINITY);
+    layer.set(cells[1], f64::NEG_INFINITY);
+    assert!(layer.aggregate(&cells, Aggregation::Sum).unwrap().is_nan());
 }
