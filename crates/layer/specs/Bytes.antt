@@ -14,7 +14,7 @@ use Rattle.words.specs.Laws.{length-bytesOf, word-bytesOf, word-append-left, wo
 use Rattle.cell.specs.Cell.{sameCell, lessCell}
 use Rattle.cell.specs.Bytes.{cellAt, cellBytes}
 use Rattle.cell.specs.Stored.{length-cellBytes}
-use Rattle.cell.specs.BytesLaws.{cell-bytes-part}
+use Rattle.cell.specs.BytesLaws.{cell-bytes-part, cell-words}
 use Rattle.cell.specs.Laws.{Words}
 use Rattle.layer.specs.Layer.{Row, Held, nothing, held, heldOf, rowAt, rowsFrom, rowsOf, rowBytes, laid, withRow, withoutCell}
 
@@ -161,7 +161,7 @@ pub row-storable : (w : ℕ) (l : List ℕ) (i : ℕ) → Bytes l → Storable w
 unfolding rowAt cellAt
 row-storable w l i b =
     record {
-      words = record { high-word = word-lt big 8 l (w * i) b; low-word = word-lt big 8 l (w * i + 8) b };
+      words = cell-words l (w * i) b;
       small = word-lt big (w - 16) l (w * i + 16) b;
     }
 

@@ -13,11 +13,12 @@ use Rattle.refusal.specs.Table.{rawOf}
 use Rattle.refusal.specs.declared.Room.the-variants as room
 use Rattle.refusal.specs.declared.Refusal.the-variants.{NoRoom, BadLayer, BadList}
 use Rattle.words.specs.Word.{Bytes, big, bytesOf}
-use Rattle.words.specs.Laws.{word-lt, bytes-append, bytes-drop, bytes-zeros, bytes-bytesOf}
+use Rattle.words.specs.Laws.{bytes-append, bytes-drop, bytes-zeros, bytes-bytesOf}
 use Rattle.cell.specs.declared.CellAnswer.{CellAnswer}
 use Rattle.cell.specs.declared.CellAnswer.the-variants as cell
 use Rattle.cell.specs.Cell.{sameCell}
 use Rattle.cell.specs.Bytes.{cellAt, cellBytes, fromBytesOf}
+use Rattle.cell.specs.BytesLaws.{cell-words}
 use Rattle.cell.specs.Laws.{Words}
 use Rattle.layer.specs.Layer.{Row, Held, nothing, held, mostCells, roomFor, rowsOf, ascending, isSound, heldOf, withRow, withoutCell, rowBytes, laid}
 use Rattle.layer.specs.Laws.{sound-ascending, sound-room, rows-within}
@@ -56,11 +57,8 @@ read-words : (m : List ℕ) (c : Cell) → Bytes m → fromBytesOf m ≡ cell.Is
 unfolding fromBytesOf cellAt
 read-words m c b e = by-length (eqb (length m) 16) e
   where
-    at-words : Words (cellAt m 0)
-    at-words = record { high-word = word-lt big 8 m 0 b; low-word = word-lt big 8 m 8 b }
-
     by-length : (t : Bool) → cond t (cell.Is (cellAt m 0)) (cell.Refused BadList) ≡ cell.Is c → Words c
-    by-length true q = let same : cellAt m 0 ≡ c = cc in subst Words same at-words
+    by-length true q = let same : cellAt m 0 ≡ c = cc in subst Words same (cell-words m 0 b)
     by-length false q = absurd (let z : _≡_ {A = ℕ} 0 1 = cc in omega arith)
 
 row-bytes : (w : ℕ) (r : Row) → Bytes (rowBytes w r)

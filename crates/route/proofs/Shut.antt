@@ -1,18 +1,16 @@
 -- Whether a cell is shut, by the rule and by what the search found of it in a sound flag layer. Assumes nothing.
-use mathlib.Core.Path.{_≡_, sym, ap, subst, _∙_}
+use mathlib.Core.Path.{_≡_, sym, ap, _∙_}
 use mathlib.Core.Bool.{true, false, _&&_}
 use mathlib.Core.List.{List}
-use Prim.Native.Nat.{ℕ, _+_, _*_, _%_, _≤_}
-use native.Mathlib.Omega.{arith}
+use Prim.Native.Nat.{ℕ, _%_}
 use lib.Dec.{eqb}
-use lib.ListN.{length}
 use borrow.Author.Tests.{eq-eqb, ne-eqb}
 use Rattle.refusal.specs.declared.Cell.{Cell}
 use Rattle.layer.specs.declared.Place.{Place}
 use Rattle.layer.specs.declared.Place.the-variants.{At, Before}
-use Rattle.layer.specs.Layer.{Row, Held, held, nothing, heldOf, rowAt, rowsOf, isSound}
+use Rattle.layer.specs.Layer.{Row, Held, heldOf, rowAt, rowsOf, isSound}
 use Rattle.layer.specs.Places.{Stands}
-use Rattle.layer.specs.Laws.{row-within, sound-room, find-is-held, find-is-nothing}
+use Rattle.layer.specs.Laws.{found-held, missing-held}
 use Rattle.route.specs.Route.{blockedBy, isShut}
 
 -- rule 1 asks what is held of the cell
@@ -27,14 +25,7 @@ not-asked {rule} rows c e = ap (λ t. t && blockedBy (heldOf c rows)) (sym (ne-e
 
 module _ (l : List ℕ) (n : ℕ) (c : Cell) {rule : ℕ} {p : Place} (avoids : rule ≡ 1) (stands : Stands 20 l n c p) where
   pub found : (i : ℕ) {flags : ℕ} → isSound 20 l n ≡ true → p ≡ At i → flags ≡ rowAt 20 l i .kept → eqb (flags % 2) 1 ≡ isShut rule (rowsOf 20 l n) c
-  found i sound q e = asked (rowsOf 20 l n) c avoids (find-is-held 20 l c n i sound (subst (Stands 20 l n c) q stands) ∙ ap held (sym e))
+  found i sound q e = asked (rowsOf 20 l n) c avoids (found-held 20 l c n i sound stands q e)
 
   pub missing : (i : ℕ) → p ≡ Before i → false ≡ isShut rule (rowsOf 20 l n) c
-  missing i q = asked (rowsOf 20 l n) c avoids (find-is-nothing 20 l c n i (subst (Stands 20 l n c) q stands))
-
--- a record that was found lies within the table
-pub found-within : (l : List ℕ) (n : ℕ) (c : Cell) {p : Place} (i : ℕ) → isSound 20 l n ≡ true → Stands 20 l n c p → p ≡ At i → 20 * (i + 1) ≤ length l
-unfolding Stands
-found-within l n c i sound stands q =
-    let s : Stands 20 l n c (At i) = subst (Stands 20 l n c) q stands in
-    omega (arith, row-within 20 l n i (sound-room 20 l n sound) (s .within))
+  missing i q = asked (rowsOf 20 l n) c avoids (missing-held 20 l c n i stands q)

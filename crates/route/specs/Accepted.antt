@@ -26,11 +26,11 @@ pub record Blocked (rows : List Row) (c : Cell) : Type 0 where
   pub kept : heldOf c rows ≡ held flags
   pub bit-zero : flags % 2 ≡ 1
 
--- a route of one cell, or a route that begins with a step; each step adds its length to what was paid so far, rounded once
+-- a route of one cell, or a route that begins with a step; each step adds its distance to what was paid so far, rounded once
 pub data Leads (avoiding : Type 0) (rows : List Row) : Cell → Float → List Cell → Cell → Float → Type 0 where
   here : {a : Cell} {s : Float} → Leads avoiding rows a s [] a s
-  onward : {a b goal : Cell} {s length total : Float} {cells : List Cell} → Step a b → (avoiding → Blocked rows b → ⊥) → distanceOf (coordOf a) (coordOf b) ≡ Is length
-      → Leads avoiding rows b (add binary64 s length) cells goal total → Leads avoiding rows a s (b ∷ cells) goal total
+  onward : {a b goal : Cell} {s stretch total : Float} {cells : List Cell} → Step a b → (avoiding → Blocked rows b → ⊥) → distanceOf (coordOf a) (coordOf b) ≡ Is stretch
+      → Leads avoiding rows b (add binary64 s stretch) cells goal total → Leads avoiding rows a s (b ∷ cells) goal total
 
 -- a list that begins at the start and leads to the goal, and whose claimed bits are those of its cost from 0.0
 pub record Accepted (avoiding : Type 0) (rows : List Row) (start goal : Cell) (cost : ℕ) (cells : List Cell) : Type 0 where

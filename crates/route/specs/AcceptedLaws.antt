@@ -106,8 +106,8 @@ module _ (rule : ℕ) (rows : List Row) where
   leads-walk : {a goal : Cell} {s total : Float} {cells : List Cell} → Leads (rule ≡ 1) rows a s cells goal total → Each Words cells → walkFrom rule rows a s cells ≡ arrived goal total
   unfolding walkFrom
   leads-walk here w = refl
-  leads-walk (onward {a = a} {b = b} {length = length} step free far later) w =
-      let cost : costBetween a b ≡ length = cc (cost-is-distance a b step) in
+  leads-walk (onward {a = a} {b = b} {stretch = stretch} step free far later) w =
+      let cost : costBetween a b ≡ stretch = cc (cost-is-distance a b step) in
       rw (is-step a b (w .0) step, free-is-open rule rows b free, cost) (leads-walk later (w .1))
 
   leads-words : {a goal : Cell} {s total : Float} {cells : List Cell} → Leads (rule ≡ 1) rows a s cells goal total → Words a → Each Words cells → Words goal

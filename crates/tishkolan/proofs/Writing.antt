@@ -2,7 +2,7 @@
 -- the list as it was. Stated for any items and any k. Assumes nothing.
 use mathlib.Core.Path.{_≡_, refl, sym, ap, _∙_}
 use mathlib.Core.Bool.{Bool, true, false, cond}
-use mathlib.Core.List.{List, [], _∷_, _++_, append-assoc, append-nil, flatMap}
+use mathlib.Core.List.{List, [], _∷_, _++_, append-nil, flatMap}
 use Prim.Native.Nat.{ℕ, _+_, _*_, _≤_, _<_}
 use native.Mathlib.Omega.{arith}
 use native.Mathlib.Numerals.{add-one}
@@ -16,15 +16,11 @@ use Rattle.refusal.specs.declared.Refusal.the-variants.{NoRoom}
 use Rattle.refusal.specs.declared.Room.the-variants.{Output}
 use Rattle.refusal.specs.declared.Outcome.{Outcome}
 use Rattle.refusal.specs.declared.Outcome.the-variants.{Answered, Refused}
+use Rattle.layer.specs.Bytes.{flatMap-append}
 use Rattle.tishkolan.specs.declared.told.RefusalTold.{RefusalTold}
 use Rattle.tishkolan.specs.Told.{answered, toldOf, filled, fronted, fill}
 
 module _ {A B : Type 0} (f : A → List B) where
-  flatMap-append : (l m : List A) → flatMap f (l ++ m) ≡ flatMap f l ++ flatMap f m
-  unfolding flatMap
-  flatMap-append [] m = refl
-  flatMap-append (a ∷ l) m = ap (λ (t : List B). f a ++ t) (flatMap-append l m) ∙ sym (append-assoc (f a) (flatMap f l) (flatMap f m))
-
   flatMap-one : (a : A) → flatMap f (a ∷ []) ≡ f a
   unfolding flatMap
   flatMap-one a = append-nil (f a)

@@ -1,7 +1,8 @@
 -- The rule decides whether the layer is asked; then what the search found. Assumes nothing.
 use borrow.Author.Needs.{needs}
 use Rattle.layer.specs.Layer.{rowsOf}
-use Rattle.route.proofs.Shut.{found, missing, not-asked, found-within}
+use Rattle.layer.specs.Laws.{found-within}
+use Rattle.route.proofs.Shut.{found, missing, not-asked}
 use Rattle.route.proofs.is_shut.Statement.{statement}
 use Rattle.route.proofs.is_shut.Tie as tie
 
@@ -14,7 +15,7 @@ enum-known-place c = search needs
 kept-at-requires : tie.Need-kept-at-requires
 kept-at-requires c κs =
     let start = c .before .before .before .before .before .before in
-    (search needs, found-within (start .args .flags .now) (start .args .count) (start .args .c) _ (start .pre) (c .before .before .before .find .ensures) (c .before .place .given .1))
+    (search needs, found-within 20 (start .args .flags .now) (start .args .c) (start .args .count) _ (start .pre) (c .before .before .before .find .ensures) (c .before .place .given .1))
 
 enum-known-place-2 : tie.Need-enum-known-place-2
 enum-known-place-2 c = search needs
