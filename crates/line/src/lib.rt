@@ -4,12 +4,12 @@ ghost use mathlib.Core.Bool.{true};
 ghost use mathlib.Core.List.{[], _∷_};
 ghost use Prim.Native.Nat.{_≤_, max};
 ghost use lib.Dec.{leb};
-ghost use lib.IntN.{natAbs, _-ℤ_};
+ghost use lib.IntN.{natAbs};
 ghost use lib.ListN.{length};
 ghost use Rattle.cell.specs.Cell.{coordOf};
 ghost use Rattle.layer.specs.Changes.{changed};
 ghost use Rattle.listing.specs.Listing.{cells, roomIn, cellsLaid, listedIn};
-ghost use Rattle.line.specs.Line.{apart, isShort, areShort, lineShort, stepsOf, lineBetween, sampleOf, samplePoint, fractionOf, sampled, cellsAlong, lineOf, traceIn};
+ghost use Rattle.line.specs.Line.{apart, areShort, lineShort, stepsOf, lineBetween, sampleOf, samplePoint, fractionOf, sampled, cellsAlong, lineOf, traceIn};
 use cell::CellAnswer;
 use lattice::CoordAnswer;
 use lattice::ParityAnswer;
@@ -169,26 +169,11 @@ fn single(c: Cell, output: &mut [u8]) -> CountAnswer
     CountAnswer::Cells(1)
 }
 
-// Whether a difference has 32 bits.
-fn is_short(from: i32, to: i32) -> bool
-    ensures { λ r. ⌜ r ≡ isShort (to -ℤ from) ⌝ }
-{
-    let d = (to as i64) - (from as i64);
-    if -2147483648 <= d {
-        return d <= 2147483647;
-    }
-    false
-}
-
+// Whether the differences have 32 bits.
 fn are_short(from: Coord, to: Coord) -> bool
     ensures { λ r. ⌜ r ≡ areShort (apart from to) ⌝ }
 {
-    if is_short(from.x, to.x) {
-        if is_short(from.y, to.y) {
-            return is_short(from.z, to.z);
-        }
-    }
-    false
+    distance::differences_fit(to, from)
 }
 
 fn differences(from: Coord, to: Coord) -> Coord
@@ -205,12 +190,7 @@ fn differences(from: Coord, to: Coord) -> Coord
 fn absolute(d: i32) -> u64
     ensures { λ r. ⌜ (r ≡ natAbs d) × (r ≤ 2147483648) ⌝ }
 {
-    let wide = d as i64;
-    if wide < 0 {
-        (0 - wide) as u64
-    } else {
-        wide as u64
-    }
+    lattice::absolute(d as i64) as u64
 }
 
 fn larger(a: u64, b: u64) -> u64
