@@ -1,34 +1,34 @@
+-- One cell fits where there is room for any.
+use mathlib.Core.Path.{_≡_, sym, ap, _∙_}
+use mathlib.Core.List.{[], _∷_}
+use native.Mathlib.Omega.{arith}
 use borrow.Author.Needs.{needs}
+use Rattle.layer.specs.Changes.{changed}
+use Rattle.layer.specs.declared.CountAnswer.the-variants as count
+use Rattle.listing.specs.Laws.{cell-first, cells-listed, cells-refused}
 use Rattle.line.proofs.single.Statement.{statement}
 use Rattle.line.proofs.single.Tie as tie
-use Rattle.line.proofs.single.Reads as reads
-use Rattle.line.proofs.single.Lts as lts
-use Rattle.listing.proofs.put.Reads as put-reads
-use Rattle.listing.proofs.room.Reads as room-reads
 
--- src/lib.rt:165:8
 room-requires : tie.Need-room-requires
 room-requires c κs = search needs
 
--- src/lib.rt:166:9
 same-length : tie.Need-same-length
 same-length c = search needs
 
--- src/lib.rt:166:9
 returns : tie.Need-returns
-returns c = ?
+returns c = let a = c .before .before .before .before .args in sym (cells-refused (a .c ∷ []) (a .output .now) (omega arith))
 
--- src/lib.rt:168:5
 put-requires : tie.Need-put-requires
 put-requires c κs = search needs
 
--- src/lib.rt:162:1
 same-length-2 : tie.Need-same-length-2
 same-length-2 c = search needs
 
--- src/lib.rt:162:1
 returns-2 : tie.Need-returns-2
-returns-2 c = ?
+returns-2 c =
+    let a = c .before .before .before .before .before .before .before .before .args in
+    ap (changed (count.Cells 1)) (c .before .before .put .ensures ∙ cell-first (a .c) (a .output .now))
+    ∙ sym (cells-listed (a .c ∷ []) (a .output .now) (omega arith))
 
 pub single-spec : {M : Type 1} → statement M
 single-spec =
