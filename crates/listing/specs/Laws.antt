@@ -2,7 +2,7 @@
 -- answers of a list: it fits, or it does not. Assumes nothing.
 use mathlib.Core.Path.{_≡_, refl, sym, ap, ap₂, _∙_}
 use mathlib.Core.List.{List, [], _∷_, _++_, flatMap, append-assoc, append-nil}
-use Prim.Native.Nat.{ℕ, _+_, _-_, _*_, _/_, _≤_, _<_}
+use Prim.Native.Nat.{ℕ, _+_, _*_, _/_, _≤_, _<_}
 use native.Mathlib.Nat.{mul-div-le, mul-le-mul-left}
 use native.Mathlib.Omega.{arith}
 use borrow.Author.Tests.{le-leb, lt-leb}
@@ -58,18 +58,6 @@ cell-appended cs c l =
 -- the first cell
 pub cell-first : (c : Cell) (l : List ℕ) → cellPut l 0 c ≡ cellsLaid (c ∷ []) l
 cell-first c l = ap (λ (m : List ℕ). cellPut m 0 c) (sym (no-cells-laid l)) ∙ cell-appended [] c l
-
--- a list that is laid over a shorter one
-pub cells-laid-over : (cs ds : List Cell) (l : List ℕ) → length cs ≤ length ds → cellsLaid ds (cellsLaid cs l) ≡ cellsLaid ds l
-unfolding cellsLaid
-cells-laid-over cs ds l h =
-    let front = flatMap cellBytes cs in
-    let long = length-cells-bytes cs in
-    let over = 16 * (length ds - length cs) in
-    let start : 16 * length ds ≡ length front + over = omega arith in
-    let whole : 16 * length cs + over ≡ 16 * length ds = omega arith in
-    ap (λ (m : List ℕ). flatMap cellBytes ds ++ m)
-    (ap (λ (k : ℕ). drop k (front ++ drop (16 * length cs) l)) start ∙ drop-append-add front (drop (16 * length cs) l) over ∙ drop-drop over (16 * length cs) l ∙ ap (λ (k : ℕ). drop k l) whole)
 
 -- ---- the answer
 
