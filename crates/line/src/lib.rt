@@ -137,11 +137,11 @@ fn write(line: Line, output: &mut [u8]) -> usize
         }
         i += 1;
     }
-    if !cell::same(last, line.end) {
-        listing::put(output, count, line.end);
-        count += 1;
+    if cell::same(last, line.end) {
+        return count;
     }
-    count
+    listing::put(output, count, line.end);
+    count + 1
 }
 
 // The list into a buffer. It is written at once where it cannot be too long; else its cells are counted first, so that a refusal leaves the buffer as it was.
