@@ -144,18 +144,26 @@ fn write(line: Line, output: &mut [u8]) -> usize
     count + 1
 }
 
-// The list into a buffer. It is written at once where it cannot be too long; else its cells are counted first, so that a refusal leaves the buffer as it was.
+// The same; where the list cannot be longer, without counting.
+fn has_room(line: Line, room: usize) -> bool
+    requires { ⌜ line .steps ≤ 4294967296 ⌝ }
+    ensures { λ r. ⌜ r ≡ leb (length (cellsAlong line)) room ⌝ }
+{
+    if line.steps + 2 <= room as u64 {
+        return true;
+    }
+    fits(line, room)
+}
+
+// The list into a buffer. Its room is tested before a cell is written, so that a refusal leaves the buffer as it was.
 fn listed(line: Line, output: &mut [u8]) -> CountAnswer
     requires { ⌜ line .steps ≤ 4294967296 ⌝ }
     ensures { λ r. ⌜ changed r (now (output .exit)) ≡ listedIn (cells (cellsAlong line)) (now (output .entry)) ⌝ }
 {
-    let room = listing::room(output);
-    if (room as u64) < line.steps + 2 {
-        if !fits(line, room) {
-            return CountAnswer::Refused(Refusal::NoRoom(Room::Output));
-        }
+    if has_room(line, listing::room(output)) {
+        return CountAnswer::Cells(write(line, output));
     }
-    CountAnswer::Cells(write(line, output))
+    CountAnswer::Refused(Refusal::NoRoom(Room::Output))
 }
 
 // One cell into a buffer.
