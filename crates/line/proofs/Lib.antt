@@ -1,1 +1,2 @@
 mod Samples
+mod OneAnswer

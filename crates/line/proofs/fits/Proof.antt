@@ -16,10 +16,6 @@ use Rattle.line.specs.Laws.{cellsFrom, along-from, after-dropped, after-
 use Rattle.line.proofs.Samples.{dropped}
 use Rattle.line.proofs.fits.Statement.{statement}
 use Rattle.line.proofs.fits.Tie as tie
-use Rattle.line.proofs.fits.Reads as reads
-use Rattle.line.proofs.fits.Lts as lts
-use Rattle.cell.proofs.same.Reads as same-reads
-use Rattle.line.proofs.sampled.Reads as sampled-reads
 
 -- so many cells fit exactly where the rest of them fits what is left
 rest-fits : (all room rest left : ℕ) → left + all ≡ room + rest → leb rest left ≡ leb all room

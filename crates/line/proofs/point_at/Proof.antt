@@ -1,5 +1,5 @@
 -- The coordinates are read from their bits as they are.
-use mathlib.Core.Path.{_≡_, _∙_}
+use mathlib.Core.Path.{_∙_}
 use denote.Struct.Laws.{owed}
 use borrow.Author.Needs.{needs}
 use Rattle.refusal.proofs.Coord.{the-type}

@@ -1,8 +1,6 @@
 -- The line that is listed is the one between the two cells.
 use mathlib.Core.Path.{_≡_, sym, ap, _∙_}
-use mathlib.Core.Bool.{Bool, true}
-use mathlib.Core.List.{List}
-use Prim.Native.Nat.{ℕ}
+use mathlib.Core.Bool.{Bool}
 use borrow.Author.Needs.{needs}
 use Rattle.refusal.specs.declared.Coord.{Coord}
 use Rattle.listing.specs.Listing.{cells, listedIn}

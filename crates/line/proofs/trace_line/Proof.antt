@@ -4,7 +4,6 @@ use mathlib.Core.List.{List}
 use Prim.Native.Nat.{ℕ}
 use borrow.Author.Needs.{needs}
 use Rattle.cell.specs.declared.CellAnswer.{CellAnswer}
-use Rattle.cell.specs.declared.CellAnswer.the-variants.{Is, Refused}
 use Rattle.cell.specs.Bytes.{fromBytesOf}
 use Rattle.listing.specs.Listing.{listedIn}
 use Rattle.line.specs.Line.{lineFrom, traceIn}

@@ -1,6 +1,6 @@
 -- The cells that are laid and those still to come are the whole list, from sample to sample. What stood in the buffer before the start was put is not at hand in the loop, so that this is
 -- said of any list of which the start makes what the loop began with.
-use mathlib.Core.Path.{_≡_, refl, sym, ap, subst, transport, _∙_}
+use mathlib.Core.Path.{_≡_, refl, sym, subst, transport, _∙_}
 use mathlib.Core.Logic.{⊎-elim}
 use mathlib.Core.List.{List, [], _∷_}
 use Prim.Native.Nat.{ℕ, _+_, _-_, _*_, _≤_}
@@ -17,11 +17,6 @@ use Rattle.line.specs.Laws.{cellsFrom, along-from, after-dropped, after-
 use Rattle.line.proofs.Samples.{dropped}
 use Rattle.line.proofs.write.Statement.{statement}
 use Rattle.line.proofs.write.Tie as tie
-use Rattle.line.proofs.write.Reads as reads
-use Rattle.line.proofs.write.Lts as lts
-use Rattle.cell.proofs.same.Reads as same-reads
-use Rattle.line.proofs.sampled.Reads as sampled-reads
-use Rattle.listing.proofs.put.Reads as put-reads
 
 -- ---- one sample
 

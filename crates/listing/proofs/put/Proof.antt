@@ -10,9 +10,6 @@ use Rattle.cell.specs.BytesLaws.{cell-stored-parts}
 use Rattle.listing.specs.Listing.{cellPut}
 use Rattle.listing.proofs.put.Statement.{statement}
 use Rattle.listing.proofs.put.Tie as tie
-use Rattle.listing.proofs.put.Reads as reads
-use Rattle.listing.proofs.put.Lts as lts
-use Rattle.cell.proofs.write_at.Reads as write-at-reads
 
 mul-write-at : tie.Need-mul-write-at
 mul-write-at c = search needs
