@@ -337,6 +337,17 @@ tishkolan_length_answer tishkolan_survey_write(const uint8_t *flags, size_t flag
                                                const uint8_t *values, size_t values_length, size_t values_count,
                                                uint8_t *out, size_t out_length);
 
+/* ---- lists of cells, 16 bytes each, at the front of a buffer. The count is how many they are, and 0
+ * where the call refuses. */
+
+/* The cells along the line from start to end, both listed; equal ends are one cell, whatever their
+ * parity. Those sampled between have the start's frame and resolution and are plain. BAD_LIST;
+ * INVALID_PARITY of start, then of end; COORD_OVERFLOW where a coordinate of end less that of start
+ * leaves int32_t; NO_ROOM 3. There are two samples for each unit of the largest difference. */
+tishkolan_count_answer tishkolan_trace_line(const uint8_t *start, size_t start_length,
+                                            const uint8_t *end, size_t end_length,
+                                            uint8_t *output, size_t output_length);
+
 /* ---- the route checker.
  * A route is a list of cells, 16 bytes each; its cost is the sum of its steps as doubles, from 0.0,
  * in route order, and is claimed by its 64 bits. The verdict depends on what is handed to this very

@@ -6,5 +6,6 @@ pub mod Found
 pub mod OneAnswer
 pub mod OneAnswerCells
 pub mod OneAnswerLayers
+pub mod OneAnswerPaths
 pub mod KnownPoints
 pub mod OneAnswerRoutes

@@ -3,6 +3,7 @@ pub mod aggregates;
 pub mod cells;
 pub mod flags;
 pub mod layers;
+pub mod paths;
 pub mod points;
 pub mod routes;
 pub mod surveys;
