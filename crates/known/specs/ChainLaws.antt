@@ -41,6 +41,14 @@ last-same {h} {k} {b} {m} {v} same last =
       hit = λ some. same (v - 1) (omega arith) ∙ last .hit some;
     }
 
+-- chains stay where buckets, heads and links stay
+pub chain-same : (h head next h′ head′ next′ : ℕ → ℕ) (room n : ℕ) → ((j : ℕ) → j < n → h′ j ≡ h j) → ((b : ℕ) → b < room → head′ b ≡ head b) → ((i : ℕ) → i < n → next′ i ≡ next i) → Chain h head next room n → Chain h′ head′ next′ room n
+chain-same h head next h′ head′ next′ room n buckets heads links chain =
+    record {
+      heads = λ b below. rw (heads b below) (last-same {h = h} {k = h′} buckets (chain .heads b below));
+      nexts = λ i less. rw (buckets i less, links i less) (last-same {h = h} {k = h′} (λ j below. buckets j (omega arith)) (chain .nexts i less));
+    }
+
 -- no index is on a chain where each head is none
 pub chain-none : (h head next : ℕ → ℕ) (room : ℕ) → ((b : ℕ) → b < room → head b ≡ 0) → Chain h head next room 0
 chain-none h head next room none =

@@ -11,10 +11,11 @@ use lib.ListN.{length, drop, getD, replicate}
 use lib.Seq.{drop-drop}
 use Rattle.refusal.specs.declared.Cell.{Cell}
 use Rattle.words.specs.Word.{Order, little, number, ordered, word, stored, Bytes}
-use Rattle.words.specs.Laws.{word-lt, drop-stored}
+use Rattle.words.specs.Laws.{word-lt, length-stored, word-stored-apart, drop-stored}
 use Rattle.cell.specs.Laws.{Words}
 use Rattle.known.specs.declared.Found.the-variants.{At, Nowhere}
-use Rattle.known.specs.Known.{mixedOf, bucketOf, recordPlace, cellIn, cellsIn, knownCells}
+use Rattle.known.specs.Known.{mixedOf, bucketOf, recordPlace, cellIn, linkIn, headIn, cellsIn, knownCells, Known}
+use Rattle.known.specs.ChainLaws.{chain-same}
 use Rattle.known.specs.Found.{Right}
 
 -- ---- chains
@@ -94,6 +95,47 @@ pub cells-same : (l l′ : List ℕ) (room i n : ℕ) → ((j : ℕ) → i ≤ j
 unfolding cellsIn
 cells-same l l′ room i zero same = refl
 cells-same l l′ room i (suc n) same = ap₂ (λ (c : Cell) (cells : List Cell). c ∷ cells) (same i (omega arith) (omega arith)) (cells-same l l′ room (suc i) n (λ j from below. same j (omega arith) (omega arith)))
+
+-- ---- stores of the walk's own
+
+-- cells stay known where their words, the links, the heads and the length stay
+pub known-same : (l l′ : List ℕ) (room n : ℕ) → length l′ ≡ length l → ((i : ℕ) → i < n → cellIn l′ room i ≡ cellIn l room i) → ((i : ℕ) → i < n → linkIn l′ room i ≡ linkIn l room i) → ((b : ℕ) → b < room → headIn l′ b ≡ headIn l b) → Known l room n → Known l′ room n
+known-same l l′ room n long cells links heads known =
+    let size = known .roomy .size in
+    record {
+      roomy = record { size = omega arith; small = known .roomy .small; some = known .roomy .some };
+      count = known .count;
+      chain = chain-same (λ i. bucketOf (cellIn l room i) room) (headIn l) (linkIn l room) (λ i. bucketOf (cellIn l′ room i) room) (headIn l′) (linkIn l′ room) room n (λ i less. ap (λ (c : Cell). bucketOf c room) (cells i less)) heads links (known .chain);
+    }
+
+-- a store into the other bytes of any record changes no cell, and the known cells stay known
+module _ (o : Order) (k : ℕ) (l : List ℕ) (room i p v : ℕ) (from : 20 ≤ p) (to : p + k ≤ 40) where
+  pub cell-beside-field : (j : ℕ) → cellIn (stored o k l (recordPlace room i + p) v) room j ≡ cellIn l room j
+  cell-beside-field j =
+      cell-same l (stored o k l (recordPlace room i + p) v) room j
+      (word-stored-apart little o k 8 l (recordPlace room i + p) v (recordPlace room j) (omega arith))
+      (word-stored-apart little o k 8 l (recordPlace room i + p) v (recordPlace room j + 8) (omega arith))
+
+  pub known-beside-field : (n : ℕ) → Known l room n → Known (stored o k l (recordPlace room i + p) v) room n
+  known-beside-field n known =
+      known-same l (stored o k l (recordPlace room i + p) v) room n (length-stored o k l (recordPlace room i + p) v) (λ j less. cell-beside-field j)
+      (λ j less. word-stored-apart little o k 4 l (recordPlace room i + p) v (recordPlace room j + 16) (omega arith))
+      (λ b below. word-stored-apart little o k 4 l (recordPlace room i + p) v (4 * b) (omega arith)) known
+
+-- nor does a store behind the records
+module _ (o : Order) (k : ℕ) (l : List ℕ) (room p v : ℕ) (behind : 44 * room ≤ p) where
+  pub cell-before-rest : (j : ℕ) → j < room → cellIn (stored o k l p v) room j ≡ cellIn l room j
+  cell-before-rest j less =
+      cell-same l (stored o k l p v) room j
+      (word-stored-apart little o k 8 l p v (recordPlace room j) (omega arith))
+      (word-stored-apart little o k 8 l p v (recordPlace room j + 8) (omega arith))
+
+  pub known-before-rest : (n : ℕ) → Known l room n → Known (stored o k l p v) room n
+  known-before-rest n known =
+      let most = known .count in
+      known-same l (stored o k l p v) room n (length-stored o k l p v) (λ j less. cell-before-rest j (omega arith))
+      (λ j less. word-stored-apart little o k 4 l p v (recordPlace room j + 16) (omega arith))
+      (λ b below. word-stored-apart little o k 4 l p v (4 * b) (omega arith)) known
 
 -- ---- members
 
