@@ -71,14 +71,14 @@ loop-less c =
     let start = c .before .before .before .before .before .before .before .before .before in
     let args = start .args in
     let here = c .before .before .before .before .before .loop in
-    link-less (args .workspace .now) (args .room) (args .count) (args .c) (start .pre) (here .link) (c .read32-little2 .result) (here .inv) (c .before .before .before .before .loop-test .taken) (c .read32-little2 .ensures .0)
+    link-less (args .workspace .now) (args .room) (args .count) (args .c) (start .pre) (here .link) (c .read32-little2 .result) (here .inv) (omega arith) (c .read32-little2 .ensures .0)
 
 loop-again : tie.Need-loop-again Inv-loop μ-loop
 loop-again c =
     let start = c .before .before .before .before .before .before .before .before .before in
     let args = start .args in
     let here = c .before .before .before .before .before .loop in
-    walked-more (args .workspace .now) (args .room) (args .count) (args .c) (start .pre) (here .link) (c .read32-little2 .result) (here .inv) (c .before .before .before .before .loop-test .taken) (c .read32-little2 .ensures .0)
+    walked-more (args .workspace .now) (args .room) (args .count) (args .c) (start .pre) (here .link) (c .read32-little2 .result) (here .inv) (omega arith) (c .read32-little2 .ensures .0)
     (tested-other (args .workspace .now) (args .room) (here .link - 1) (args .c) (c .before .before .before .cell-at .ensures) (c .before .before .same .ensures) (c .before .if1 .left))
 
 returns-2 : tie.Need-returns-2 Inv-loop μ-loop
