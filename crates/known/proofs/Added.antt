@@ -2,7 +2,7 @@
 use mathlib.Core.Path.{_≡_, ap, ap₂, subst⁻¹, _∙_}
 use mathlib.Core.Logic.{_≢_}
 use mathlib.Core.List.{List, [], _∷_, _++_}
-use Prim.Native.Nat.{ℕ, _+_, _*_, _≤_, _<_}
+use Prim.Native.Nat.{ℕ, _+_, _*_, _<_}
 use native.Mathlib.Omega.{arith}
 use lib.ListN.{length, drop}
 use Rattle.refusal.specs.declared.Cell.{Cell}
@@ -10,8 +10,8 @@ use Rattle.words.specs.Word.{little, word, stored, Apart}
 use Rattle.words.specs.Laws.{length-stored, word-stored, word-stored-apart}
 use Rattle.cell.specs.Laws.{Words}
 use Rattle.known.specs.Chain.{Chain}
-use Rattle.known.specs.ChainLaws.{Longer, chain-longer}
-use Rattle.known.specs.Known.{Known, Added, bucketOf, recordPlace, cellIn, linkIn, headIn, cellsIn, knownCells}
+use Rattle.known.specs.ChainLaws.{chain-longer}
+use Rattle.known.specs.Known.{Known, Added, bucketOf, recordPlace, cellIn, linkIn, headIn, knownCells}
 use Rattle.known.specs.Laws.{bucket-lt, cell-same, cells-more, cells-same, drop-after-stored}
 
 -- ---- the bytes after each of the four stores

@@ -1,5 +1,5 @@
 -- A workspace whose heads are zeros has no known cell. Assumes nothing.
-use mathlib.Core.Path.{_≡_, refl, ap, subst⁻¹, _∙_}
+use mathlib.Core.Path.{_≡_, subst⁻¹, _∙_}
 use mathlib.Core.List.{List, _++_}
 use Prim.Native.Nat.{ℕ, _*_, _≤_}
 use native.Mathlib.Omega.{arith}

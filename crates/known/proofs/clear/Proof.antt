@@ -1,6 +1,6 @@
 -- Zeros for the heads of all chains.
 use mathlib.Core.Path.{ap, _∙_}
-use mathlib.Core.List.{List, _++_}
+use mathlib.Core.List.{_++_}
 use Prim.Native.Nat.{ℕ, _*_}
 use native.Mathlib.Nat.{sub-zero}
 use borrow.Author.Needs.{needs}
