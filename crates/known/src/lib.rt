@@ -11,14 +11,14 @@ pub enum Found {
     Nowhere,
 }
 
-// One word of 32 bits from a cell's four. Cells that stand together fall apart: the factors are 2^32 times the powers of the root of a^4 = a + 1, which no small whole numbers come near.
+// One word of 32 bits from a cell's four. Cells that stand together fall apart: each factor is 2^32 over a power of the root of a^4 = a + 1, so that no small steps of x, y and z add up to nearly nothing.
 fn mixed(c: Cell) -> u64
     ensures { λ r. ⌜ (r ≡ mixedOf c) × (r < 4294967296) ⌝ }
 {
     let x = c.low / 4294967296 * 3518319155 % 4294967296;
     let y = c.high % 4294967296 * 2882110345 % 4294967296;
     let z = c.high / 4294967296 * 2360945575 % 4294967296;
-    let fields = c.low % 4294967296 * 2654435769 % 4294967296;
+    let fields = c.low % 4294967296 * 1934021721 % 4294967296;
     (x + y + z + fields) % 4294967296
 }
 
