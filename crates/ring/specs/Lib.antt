@@ -1,2 +1,4 @@
 pub mod Ring
 pub mod State
+pub mod RoomLaws
+pub mod ListedLaws
