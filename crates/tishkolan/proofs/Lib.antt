@@ -8,3 +8,5 @@ pub mod OneAnswerCells
 pub mod OneAnswerLayers
 pub mod KnownPoints
 pub mod OneAnswerRoutes
+pub mod RingSaid
+pub mod OneAnswerRings

@@ -4,6 +4,7 @@ pub mod cells;
 pub mod flags;
 pub mod layers;
 pub mod points;
+pub mod rings;
 pub mod routes;
 pub mod surveys;
 pub mod told;
