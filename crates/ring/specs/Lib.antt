@@ -1,2 +1,4 @@
 pub mod Ring
 pub mod State
+pub mod AmongLaws
+pub mod StateLaws
