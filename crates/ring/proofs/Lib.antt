@@ -1,3 +1,4 @@
 pub mod Seen
 pub mod SeenAll
 pub mod Expanded
+pub mod Leveled
