@@ -2,3 +2,4 @@ pub mod Seen
 pub mod SeenAll
 pub mod Expanded
 pub mod Leveled
+pub mod Stepped
