@@ -5,7 +5,6 @@ use mathlib.Core.List.{List, [], _∷_, _++_, List·Memᴰ, List·Memᴰ·head, 
 use mathlib.Core.Logic.{_⊎_, inl, inr}
 use Prim.Native.Nat.{ℕ, zero, suc, _+_, _-_, _*_, _/_, _≤_, _<_}
 use native.Mathlib.Nat.{mul-lt-mul-of-pos-right, div-lt-iff-lt-mul}
-use native.Mathlib.Numerals.{add-one}
 use native.Mathlib.Omega.{arith}
 use lib.ListN.{length, drop, getD, replicate}
 use lib.Seq.{drop-drop}
@@ -72,16 +71,24 @@ unfolding cellsIn
 length-cells l room i zero = refl
 length-cells l room i (suc n) = ap suc (length-cells l room (suc i) n)
 
-cells-last : (l : List ℕ) (room i n : ℕ) → cellsIn l room i (suc n) ≡ cellsIn l room i n ++ (cellIn l room (i + n) ∷ [])
+-- the cells of records behind others
+pub cells-joined : (l : List ℕ) (room i n m : ℕ) → cellsIn l room i n ++ cellsIn l room (i + n) m ≡ cellsIn l room i (n + m)
 unfolding cellsIn
-cells-last l room i zero = ap (λ (k : ℕ). cellIn l room k ∷ []) (omega arith)
-cells-last l room i (suc n) =
-    ap (λ (cells : List Cell). cellIn l room i ∷ cells) (cells-last l room (suc i) n)
-    ∙ ap (λ (k : ℕ). cellIn l room i ∷ (cellsIn l room (suc i) n ++ (cellIn l room k ∷ []))) (omega arith)
+cells-joined l room i zero m =
+    let place : i + 0 ≡ i = omega arith in
+    let size : m ≡ 0 + m = omega arith in
+    ap₂ (cellsIn l room) place size
+cells-joined l room i (suc n) m =
+    let place : i + suc n ≡ suc i + n = omega arith in
+    let size : suc (n + m) ≡ suc n + m = omega arith in
+    ap (λ (k : ℕ). cellIn l room i ∷ (cellsIn l room (suc i) n ++ cellsIn l room k m)) place
+    ∙ ap (λ (cells : List Cell). cellIn l room i ∷ cells) (cells-joined l room (suc i) n m)
+    ∙ ap (cellsIn l room i) size
 
 -- one record more is one cell more behind the others
 pub cells-more : (l : List ℕ) (room i n : ℕ) → cellsIn l room i (n + 1) ≡ cellsIn l room i n ++ (cellIn l room (i + n) ∷ [])
-cells-more l room i n = ap (cellsIn l room i) (add-one n) ∙ cells-last l room i n
+unfolding cellsIn
+cells-more l room i n = sym (cells-joined l room i n 1)
 
 -- the cell at place j is that of record i + j
 pub cell-at-place : (l : List ℕ) (room i n j : ℕ) (d : Cell) → j < n → getD (cellsIn l room i n) j d ≡ cellIn l room (i + j)

@@ -3,3 +3,5 @@ pub mod SeenAll
 pub mod Expanded
 pub mod Leveled
 pub mod Stepped
+pub mod Written
+pub mod Finished
