@@ -38,6 +38,11 @@ abbrev pub Sees : Rooms → ℕ → ℕ → List ℕ → List ℕ → Walked →
 Sees rooms next n l l′ r f =
     (every : Bool) (to i : ℕ) → next ≤ to → to ≤ n → i ≤ to → Shows every l l′ (rooms .known) n to i r (f (to - next) (sightIn every l (rooms .known) n to i))
 
+-- a ring that listed the cells before record `from`, and went on past those before record `to`, had output room for them
+abbrev pub Lists : Bool → Rooms → ℕ → ℕ → Walked → Type 0
+Lists every rooms from to (walked.Going n) = every ≡ true → from ≤ rooms .output → to ≤ rooms .output
+Lists every rooms from to (walked.Stopped r) = Unit {0}
+
 -- the walk w has come to its last cells: the records from `from` up to `to`, which are left to be listed
 pub record Last (every : Bool) (l l′ : List ℕ) (rooms : Rooms) (from to : ℕ) (w : Walk) : Type 0 where
   pub known : Known l′ (rooms .known) to

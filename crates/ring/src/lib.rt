@@ -9,7 +9,7 @@ ghost use Rattle.layer.specs.Changes.{changed};
 ghost use Rattle.known.specs.Known.{Roomy, Known};
 ghost use Rattle.listing.specs.Listing.{roomIn, cellsLaid};
 ghost use Rattle.ring.specs.Ring.{see, seeAll, expand, level, listAll, levels, walkOf, listedBy, hasRooms, ringed, ringIn};
-ghost use Rattle.ring.specs.State.{cellsBetween, sightIn, Shows, Sees, Reaches};
+ghost use Rattle.ring.specs.State.{cellsBetween, sightIn, Shows, Sees, Lists, Reaches};
 use cell::CellAnswer;
 use known::Found;
 use layer::CountAnswer;
@@ -99,9 +99,10 @@ fn expand(workspace: &mut [u8], rooms: Rooms, next: usize, count: usize, c: Cell
 {
     let near = cell::get_neighbors(c);
     let outcome = near.outcome;
+    let cells = near.cells;
     match outcome {
         Outcome::Refused(r) => Walked::Stopped(r),
-        Outcome::Answered => see_all(workspace, rooms, next, count, near.cells),
+        Outcome::Answered => see_all(workspace, rooms, next, count, cells),
     }
 }
 
@@ -110,6 +111,7 @@ fn level(workspace: &mut [u8], every: bool, rooms: Rooms, from: usize, to: usize
     requires { ⌜ Known (now workspace) (rooms .known) to ⌝ }
     requires { ⌜ from ≤ to ⌝ }
     ensures { λ r. ⌜ Shows every (now (workspace .entry)) (now (workspace .exit)) (rooms .known) to to to r (level every rooms (cellsBetween (now (workspace .entry)) (rooms .known) from to) (sightIn every (now (workspace .entry)) (rooms .known) to to from)) ⌝ }
+    ensures { λ r. ⌜ Lists every rooms from to r ⌝ }
 {
     let mut count = to;
     let mut i = from;
