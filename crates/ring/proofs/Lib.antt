@@ -3,5 +3,7 @@ pub mod SeenAll
 pub mod Expanded
 pub mod Leveled
 pub mod Stepped
+pub mod Started
 pub mod Written
 pub mod Finished
+pub mod Ringed

@@ -6,13 +6,18 @@ use mathlib.Core.List.{List, []}
 use Prim.Native.Nat.{ℕ, _-_, _≤_, _<_}
 use lib.ListN.{length}
 use Rattle.refusal.specs.declared.Cell.{Cell}
+use Rattle.cell.specs.declared.CellAnswer.{CellAnswer}
+use Rattle.cell.specs.declared.CellAnswer.the-variants as cell
+use Rattle.layer.specs.Changes.{Changed, changed}
+use Rattle.layer.specs.declared.CountAnswer.{CountAnswer}
+use Rattle.layer.specs.declared.CountAnswer.the-variants as count
 use Rattle.known.specs.Known.{cellIn, cellsIn, knownCells, Known}
 use Rattle.ring.specs.declared.Rooms.{Rooms}
 use Rattle.ring.specs.declared.Walked.{Walked}
 use Rattle.ring.specs.declared.Walked.the-variants as walked
 use Rattle.ring.specs.declared.Reached.{Reached}
 use Rattle.ring.specs.declared.Reached.the-variants as reached
-use Rattle.ring.specs.Ring.{Sight, sight, Walk, going, stopped, listAll}
+use Rattle.ring.specs.Ring.{Sight, sight, Walk, going, stopped, listAll, walkOf, listedBy}
 
 -- the cells of the records from `from` up to `to`
 abbrev pub cellsBetween : List ℕ → ℕ → ℕ → ℕ → List Cell
@@ -54,3 +59,8 @@ pub record Last (every : Bool) (l l′ : List ℕ) (rooms : Rooms) (from to : �
 abbrev pub Reaches : Bool → List ℕ → List ℕ → Rooms → Reached → Walk → Type 0
 Reaches every l l′ rooms (reached.Last s) w = Last every l l′ rooms (s .from) (s .to) w
 Reaches every l l′ rooms (reached.Stopped r) w = (length l′ ≡ length l) × (w ≡ stopped r)
+
+-- the answer and the output of a call whose centre was read
+abbrev pub walkedFrom : CellAnswer → Bool → Rooms → ℕ → List ℕ → Changed CountAnswer
+walkedFrom (cell.Refused r) every rooms k l = changed (count.Refused r) l
+walkedFrom (cell.Is c) every rooms k l = listedBy (walkOf every rooms k c) l

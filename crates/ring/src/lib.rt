@@ -5,11 +5,12 @@ ghost use mathlib.Core.Bool.{true, false, _&&_};
 ghost use Prim.Native.Nat.{_-_, _≤_};
 ghost use lib.Dec.{leb};
 ghost use lib.ListN.{length};
+ghost use Rattle.cell.specs.Bytes.{fromBytesOf};
 ghost use Rattle.layer.specs.Changes.{changed};
 ghost use Rattle.known.specs.Known.{Roomy, Known};
 ghost use Rattle.listing.specs.Listing.{roomIn, cellsLaid};
 ghost use Rattle.ring.specs.Ring.{see, seeAll, expand, level, listAll, levels, walkOf, listedBy, hasRooms, ringed, ringIn};
-ghost use Rattle.ring.specs.State.{cellsBetween, sightIn, Shows, Sees, Lists, Reaches};
+ghost use Rattle.ring.specs.State.{cellsBetween, sightIn, Shows, Sees, Lists, Reaches, walkedFrom};
 use cell::CellAnswer;
 use known::Found;
 use layer::CountAnswer;
@@ -211,6 +212,27 @@ fn walk(
     }
 }
 
+// The walk from the centre that the bytes hold.
+fn walk_from(
+    center: &[u8],
+    every: bool,
+    rooms: Rooms,
+    k: u64,
+    workspace: &mut [u8],
+    output: &mut [u8],
+) -> CountAnswer
+    requires { ⌜ Roomy (now workspace) (rooms .known) ⌝ }
+    requires { ⌜ rooms .output ≡ roomIn (now output) ⌝ }
+    ensures { λ r. ⌜ changed r (now (output .exit)) ≡ walkedFrom (fromBytesOf (now (center .entry))) every rooms k (now (output .entry)) ⌝ }
+    ensures { λ r. ⌜ length (now (workspace .exit)) ≡ length (now (workspace .entry)) ⌝ }
+{
+    let given = cell::from_bytes(center);
+    match given {
+        CellAnswer::Refused(r) => CountAnswer::Refused(r),
+        CellAnswer::Is(c) => walk(workspace, every, rooms, k, c, output),
+    }
+}
+
 // A room is named from 1 to 65,536.
 fn is_room(n: usize) -> bool
     ensures { λ r. ⌜ r ≡ (leb 1 n && leb n 65536) ⌝ }
@@ -252,10 +274,7 @@ fn around(
         waiting,
         output: listing::room(output),
     };
-    let answer = match cell::from_bytes(center) {
-        CellAnswer::Refused(r) => CountAnswer::Refused(r),
-        CellAnswer::Is(c) => walk(workspace, every, rooms, k, c, output),
-    };
+    let answer = walk_from(center, every, rooms, k, workspace, output);
     let size = workspace.len();
     layer::records::zero(workspace, 0, size);
     answer
