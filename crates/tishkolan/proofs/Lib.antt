@@ -9,3 +9,5 @@ pub mod OneAnswerLayers
 pub mod OneAnswerPaths
 pub mod KnownPoints
 pub mod OneAnswerRoutes
+pub mod RingSaid
+pub mod OneAnswerRings

@@ -5,6 +5,7 @@ pub mod flags;
 pub mod layers;
 pub mod paths;
 pub mod points;
+pub mod rings;
 pub mod routes;
 pub mod surveys;
 pub mod told;
