@@ -1,8 +1,8 @@
 -- A ring is the ring one step smaller, then the shell around it: where the ring is answered, so are the two. Assumes nothing.
-use mathlib.Core.Path.{_≡_, refl, sym, ap, _∙_}
+use mathlib.Core.Path.{_≡_, ap, _∙_}
 use mathlib.Core.Bool.{true, false}
 use mathlib.Core.List.{List, [], _∷_, _++_}
-use Prim.Native.Nat.{ℕ, zero, suc, _≤_}
+use Prim.Native.Nat.{ℕ, zero, suc}
 use native.Mathlib.Omega.{arith}
 use Rattle.refusal.specs.declared.Cell.{Cell}
 use Rattle.ring.specs.declared.Rooms.{Rooms}

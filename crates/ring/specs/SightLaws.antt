@@ -16,7 +16,7 @@ use Rattle.refusal.specs.Table.{rawOf}
 use Rattle.cell.specs.Cell.{sameCell, neighborsOf}
 use Rattle.cell.specs.Laws.{Words, same-cell}
 use Rattle.ring.specs.declared.Rooms.{Rooms}
-use Rattle.ring.specs.Ring.{Sight, sight, Walk, going, stopped, andThen, isAmong, noted, note, see, seeAll, expandInto, expand, listIf, level}
+use Rattle.ring.specs.Ring.{Sight, going, stopped, andThen, isAmong, noted, note, see, seeAll, expandInto, expand, listIf, level}
 use Rattle.ring.specs.Reach.{Near, Distinct}
 use Rattle.ring.specs.ReachLaws.{distinct-last}
 use Rattle.ring.specs.WalkLaws.{going-same, stopped-going, both-go, test-passed, relisted, ifEvery, list-if-adds}
