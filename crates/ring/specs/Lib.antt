@@ -6,3 +6,5 @@ pub mod WalkLaws
 pub mod SightLaws
 pub mod RingLaws
 pub mod RingParts
+pub mod AmongLaws
+pub mod StateLaws

@@ -99,9 +99,10 @@ fn expand(workspace: &mut [u8], rooms: Rooms, next: usize, count: usize, c: Cell
 {
     let near = cell::get_neighbors(c);
     let outcome = near.outcome;
+    let cells = near.cells;
     match outcome {
         Outcome::Refused(r) => Walked::Stopped(r),
-        Outcome::Answered => see_all(workspace, rooms, next, count, near.cells),
+        Outcome::Answered => see_all(workspace, rooms, next, count, cells),
     }
 }
 
