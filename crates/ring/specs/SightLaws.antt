@@ -1,10 +1,9 @@
 -- What a walk has seen at the end of a level: the cells known before it, then those found, none twice, and each neighbour of the level's cells among them. Assumes nothing.
 use mathlib.Core.Path.{_≡_, refl, sym, ap, subst, _∙_}
-use mathlib.Core.Logic.{_⊎_, inl, inr, ⊎-elim}
-use mathlib.Core.Bool.{Bool, true, false, cond, _||_, false≢true, or-true}
+use mathlib.Core.Logic.{⊎-elim}
+use mathlib.Core.Bool.{Bool, true, false, cond, _||_, false≢true}
 use mathlib.Core.List.{List, [], _∷_, _++_, append-assoc, List·Memᴰ, List·Memᴰ·head, List·Memᴰ·tail, List·Memᴰ·not-nil, List·Memᴰ·cases-cons, List·Memᴰ·append-cases, List·Memᴰ·eq-of-singleton, Memᴰ·cast, Memᴰ·append-left, Memᴰ·append-right}
 use Prim.Native.Nat.{ℕ, _+_}
-use borrow.Author.Tests.{eq-eqb}
 use lib.Dec.{ltb}
 use lib.ListN.{length}
 use Rattle.refusal.specs.declared.Cell.{Cell}
@@ -12,11 +11,11 @@ use Rattle.refusal.specs.declared.Room.the-variants.{Known, Waiting}
 use Rattle.refusal.specs.declared.Refusal.the-variants.{NoRoom}
 use Rattle.refusal.specs.declared.Outcome.{Outcome}
 use Rattle.refusal.specs.declared.Outcome.the-variants as outcome
-use Rattle.refusal.specs.Table.{rawOf}
 use Rattle.cell.specs.Cell.{sameCell, neighborsOf}
 use Rattle.cell.specs.Laws.{Words, same-cell}
 use Rattle.ring.specs.declared.Rooms.{Rooms}
 use Rattle.ring.specs.Ring.{Sight, going, stopped, andThen, isAmong, noted, note, see, seeAll, expandInto, expand, listIf, level}
+use Rattle.ring.specs.AmongLaws.{among-member}
 use Rattle.ring.specs.Reach.{Near, Distinct}
 use Rattle.ring.specs.ReachLaws.{distinct-last}
 use Rattle.ring.specs.WalkLaws.{going-same, stopped-going, both-go, test-passed, relisted, ifEvery, list-if-adds}
@@ -27,26 +26,14 @@ use Rattle.ring.specs.WalkLaws.{going-same, stopped-going, both-go, test
 abbrev pub AllWords : List Cell → Type 0
 AllWords cs = (c : Cell) → List·Memᴰ c cs → Words c
 
-among-member : (c : Cell) (ds : List Cell) → Words c → AllWords ds → isAmong c ds ≡ true → List·Memᴰ c ds
+among-is-member : (c : Cell) (ds : List Cell) → Words c → AllWords ds → isAmong c ds ≡ true → List·Memᴰ c ds
 unfolding isAmong
-among-member c [] w all e = absurd (false≢true e)
-among-member c (d ∷ ds) w all e = by-test (sameCell c d) refl e (among-member c ds w (λ b m. all b (List·Memᴰ·tail m)))
+among-is-member c [] w all e = absurd (false≢true e)
+among-is-member c (d ∷ ds) w all e = by-test (sameCell c d) refl e (among-is-member c ds w (λ b m. all b (List·Memᴰ·tail m)))
   where
     by-test : (t : Bool) → sameCell c d ≡ t → t || isAmong c ds ≡ true → (isAmong c ds ≡ true → List·Memᴰ c ds) → List·Memᴰ c (d ∷ ds)
     by-test true same e rest = List·Memᴰ·head (same-cell c d w (all d (List·Memᴰ·head refl)) same)
     by-test false same e rest = List·Memᴰ·tail (rest e)
-
-same-is-same : (c d : Cell) → c ≡ d → sameCell c d ≡ true
-same-is-same c d e = eq-eqb (rawOf c) (rawOf d) (ap rawOf e)
-
-member-among : (c : Cell) (ds : List Cell) → List·Memᴰ c ds → isAmong c ds ≡ true
-unfolding isAmong
-member-among c [] m = absurd (List·Memᴰ·not-nil m)
-member-among c (d ∷ ds) m = by-place (λ (m : List·Memᴰ c ds). member-among c ds m) (List·Memᴰ·cases-cons m)
-  where
-    by-place : (List·Memᴰ c ds → isAmong c ds ≡ true) → (c ≡ d) ⊎ List·Memᴰ c ds → sameCell c d || isAmong c ds ≡ true
-    by-place rest (inl e) = ap (λ (t : Bool). t || isAmong c ds) (same-is-same c d e)
-    by-place rest (inr m) = ap (λ (t : Bool). sameCell c d || t) (rest m) ∙ or-true (sameCell c d)
 
 -- ---- while the cells of a level are expanded
 
@@ -69,7 +56,7 @@ module _ (before : List Cell) (Q : Cell → Type 0) (fits : (d : Cell) → Q d �
       record {
         sighted = record {
           split = ap (λ (l : List Cell). l ++ (c ∷ [])) (sighted .split) ∙ append-assoc before (s .found) (c ∷ []);
-          distinct = distinct-last (s .known) c (sighted .distinct) (λ m. false≢true (sym new ∙ member-among c (s .known) m));
+          distinct = distinct-last (s .known) c (sighted .distinct) (λ m. false≢true (sym new ∙ among-member c (s .known) m));
           words = λ d m. ⊎-elim (sighted .words d) (λ (m : List·Memᴰ d (c ∷ [])). subst Words (sym (List·Memᴰ·eq-of-singleton m)) (fits c q)) (List·Memᴰ·append-cases (s .known) m);
           only = λ d m. ⊎-elim (sighted .only d) (λ (m : List·Memᴰ d (c ∷ [])). subst Q (sym (List·Memᴰ·eq-of-singleton m)) q) (List·Memᴰ·append-cases (s .found) m);
         };
@@ -83,7 +70,7 @@ module _ (before : List Cell) (Q : Cell → Type 0) (fits : (d : Cell) → Q d �
     where
       by-test : (b : Bool) → isAmong c (s .known) ≡ b → cond b (going s) (note rooms others c s) ≡ going t → After before Q (λ (d : Cell). d ≡ c) s t
       by-test true known e =
-          let here = among-member c (s .known) (fits c q) (sighted .words) known in
+          let here = among-is-member c (s .known) (fits c q) (sighted .words) known in
           subst (After before Q (λ (d : Cell). d ≡ c) s) (going-same e) (record { sighted = sighted; kept = λ d m. m; all = λ d e. Memᴰ·cast e here })
       by-test false new e =
           let waits = cond (ltb (others + length (s .found)) (rooms .waiting)) (going (noted c s)) (stopped (NoRoom Waiting)) in
