@@ -8,3 +8,4 @@ pub mod RingLaws
 pub mod RingParts
 pub mod AmongLaws
 pub mod StateLaws
+pub mod CallLaws
