@@ -17,7 +17,7 @@ use Rattle.layer.specs.declared.CountAnswer.the-variants as count
 use Rattle.layer.specs.Sequences.{read-words}
 use Rattle.listing.specs.Listing.{cellsLaid}
 use Rattle.ring.specs.declared.Rooms.{Rooms}
-use Rattle.ring.specs.Ring.{Sight, Walk, going, stopped, walkOf, Ringed, ringed, listedBy, hasRooms, roomsOf, ringFrom, ringIn}
+use Rattle.ring.specs.Ring.{Walk, going, stopped, walkOf, Ringed, ringed, listedBy, hasRooms, roomsOf, ringFrom, ringIn}
 use Rattle.ring.specs.Reach.{Within, Exactly, Distinct}
 use Rattle.ring.specs.RingLaws.{ring-within, ring-distinct, shell-exactly, shell-distinct}
 

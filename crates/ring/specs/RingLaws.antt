@@ -13,7 +13,7 @@ use Rattle.ring.specs.declared.Rooms.{Rooms}
 use Rattle.ring.specs.Ring.{Sight, sight, going, level, listAll, further, levels, walkOf}
 use Rattle.ring.specs.Reach.{Near, Steps, stay, onward, Within, Exactly, Distinct, no-cells, one-more}
 use Rattle.ring.specs.ReachLaws.{steps-words, distinct-right, distinct-apart}
-use Rattle.ring.specs.WalkLaws.{both-go, ifEvery, every-append, list-all-adds, level-lists}
+use Rattle.ring.specs.WalkLaws.{both-go, ifEvery, every-none, every-append, list-all-adds, level-lists}
 use Rattle.ring.specs.SightLaws.{Sighted, After, level-sees}
 
 -- ---- level by level
@@ -58,17 +58,13 @@ start every center =
       split = refl;
       distinct = one-more (λ m. List·Memᴰ·not-nil m) no-cells;
       none-found = refl;
-      listed = none every;
+      listed = sym (every-none every);
       before-nearer = λ d m. absurd (List·Memᴰ·not-nil m);
       nearer-before = λ d r. absurd (omega (arith, r .1));
       at-hand = λ d m. stay (List·Memᴰ·eq-of-singleton m);
       all = λ d steps. List·Memᴰ·head (there steps);
     }
   where
-    none : (every : Bool) → [] ≡ ifEvery every []
-    none true = refl
-    none false = refl
-
     there : {d : Cell} → Steps center 0 d → d ≡ center
     there (stay e) = e
 

@@ -50,7 +50,7 @@ relisted l s = sight (s .known) (s .found) l
 abbrev pub ifEvery : Bool → List Cell → List Cell
 ifEvery every cs = cond every cs []
 
-every-none : (every : Bool) → ifEvery every [] ≡ []
+pub every-none : (every : Bool) → ifEvery every [] ≡ []
 every-none true = refl
 every-none false = refl
 
