@@ -1,3 +1,4 @@
+pub mod Points
 pub mod Seen
 pub mod SeenAll
 pub mod Expanded
@@ -7,3 +8,4 @@ pub mod Started
 pub mod Written
 pub mod Finished
 pub mod Ringed
+pub mod OneAnswer
