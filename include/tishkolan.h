@@ -225,7 +225,8 @@ enum {
     TISHKOLAN_BOUNDARY = 8
 };
 
-/* The layer's count after the call: where it refuses, the count that was given. */
+/* The layer's count after the call: where it refuses, the count that was given. Of a call that lists
+ * cells, how many they are, and 0 where it refuses. */
 typedef struct {
     tishkolan_refusal refusal;
     uint64_t count;
