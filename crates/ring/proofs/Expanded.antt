@@ -11,7 +11,7 @@ use Rattle.cell.specs.Cell.{neighborsOf}
 use Rattle.ring.specs.declared.Rooms.{Rooms}
 use Rattle.ring.specs.declared.Walked.{Walked}
 use Rattle.ring.specs.declared.Walked.the-variants.{Stopped}
-use Rattle.ring.specs.Ring.{Sight, Walk, seeAll, expandInto, expand}
+use Rattle.ring.specs.Ring.{Sight, seeAll, expandInto, expand}
 use Rattle.ring.specs.State.{sightIn, Shows, Sees}
 
 -- the neighbours that were asked for, and their outcome

@@ -16,7 +16,7 @@ use Rattle.known.specs.Laws.{length-cells, cells-more}
 use Rattle.ring.specs.declared.Rooms.{Rooms}
 use Rattle.ring.specs.declared.Walked.{Walked}
 use Rattle.ring.specs.declared.Walked.the-variants.{Going, Stopped}
-use Rattle.ring.specs.Ring.{Sight, sight, Walk, going, stopped, andThen, expand, list, listIf, level}
+use Rattle.ring.specs.Ring.{sight, Walk, going, stopped, andThen, expand, list, listIf, level}
 use Rattle.ring.specs.State.{cellsBetween, sightIn, Grown, Shows, Sees, Lists}
 use Rattle.ring.specs.StateLaws.{grown-none, grown-twice, none-between, first-between, length-between}
 

@@ -1,7 +1,7 @@
 -- The call: rooms first, then the centre, then the walk; and the workspace is zeros. Assumes nothing.
 use mathlib.Core.Path.{_≡_, refl, sym, ap, _∙_}
 use mathlib.Core.Bool.{Bool, true, false, cond}
-use mathlib.Core.List.{List, [], _++_, append-nil}
+use mathlib.Core.List.{List, _++_, append-nil}
 use Prim.Native.Nat.{ℕ, _-_}
 use native.Mathlib.Nat.{sub-zero}
 use lib.ListN.{length, take, drop, replicate}
@@ -15,7 +15,7 @@ use Rattle.layer.specs.declared.CountAnswer.{CountAnswer}
 use Rattle.layer.specs.declared.CountAnswer.the-variants as count
 use Rattle.listing.specs.Listing.{roomIn}
 use Rattle.ring.specs.declared.Rooms.{Rooms}
-use Rattle.ring.specs.Ring.{Ringed, ringed, zeros, wiped, hasRooms, roomsOf, ringFrom, ringIn}
+use Rattle.ring.specs.Ring.{ringed, zeros, wiped, hasRooms, roomsOf, ringFrom, ringIn}
 use Rattle.ring.specs.State.{walkedFrom}
 
 -- the centre that was read

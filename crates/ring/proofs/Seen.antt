@@ -18,7 +18,7 @@ use Rattle.known.specs.Known.{knownCells, Known, Added}
 use Rattle.known.specs.Laws.{length-cells, member-words, found-member, nowhere-member}
 use Rattle.ring.specs.declared.Rooms.{Rooms}
 use Rattle.ring.specs.declared.Walked.the-variants.{Going, Stopped}
-use Rattle.ring.specs.Ring.{Walk, going, stopped, isAmong, noted, note, see}
+use Rattle.ring.specs.Ring.{going, stopped, noted, note, see}
 use Rattle.ring.specs.AmongLaws.{among-member, among-none}
 use Rattle.ring.specs.State.{sightIn, Sees}
 use Rattle.ring.specs.StateLaws.{grown-none, grown-added, length-between, sight-added}

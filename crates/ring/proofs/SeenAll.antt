@@ -14,7 +14,7 @@ use Rattle.ring.specs.declared.Rooms.{Rooms}
 use Rattle.ring.specs.declared.Walked.{Walked}
 use Rattle.ring.specs.declared.Walked.the-variants.{Going, Stopped}
 use Rattle.ring.specs.Ring.{Sight, Walk, andThen, see, seeAll}
-use Rattle.ring.specs.State.{sightIn, Grown, Shows, Sees}
+use Rattle.ring.specs.State.{sightIn, Grown, Sees}
 use Rattle.ring.specs.StateLaws.{grown-none, grown-twice}
 
 -- what all waiting cells see does not depend on which: the workspace's part of it

@@ -11,7 +11,7 @@ use Rattle.known.specs.Known.{Known}
 use Rattle.ring.specs.declared.Rooms.{Rooms}
 use Rattle.ring.specs.declared.Walked.{Walked}
 use Rattle.ring.specs.declared.Walked.the-variants.{Going, Stopped}
-use Rattle.ring.specs.Ring.{Sight, sight, Walk, going, stopped, andThen, level, listAll, further, levels}
+use Rattle.ring.specs.Ring.{sight, Walk, going, stopped, andThen, level, listAll, further, levels}
 use Rattle.ring.specs.State.{cellsBetween, sightIn, Shows, Lists, Last}
 use Rattle.ring.specs.StateLaws.{none-between, sight-further}
 

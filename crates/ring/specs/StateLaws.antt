@@ -1,6 +1,6 @@
 -- How what a walk has seen grows with its workspace. Assumes nothing.
 use mathlib.Core.Path.{_≡_, refl, sym, ap, ap₂, _∙_}
-use mathlib.Core.Bool.{Bool, true, false, cond}
+use mathlib.Core.Bool.{Bool, cond}
 use mathlib.Core.List.{List, [], _∷_, _++_}
 use Prim.Native.Nat.{ℕ, suc, _+_, _-_, _≤_, _<_}
 use native.Mathlib.Numerals.{add-one}
@@ -10,7 +10,7 @@ use lib.Seq.{getD-at}
 use Rattle.refusal.specs.declared.Cell.{Cell}
 use Rattle.known.specs.Known.{cellIn, cellsIn, knownCells, Known, Added}
 use Rattle.known.specs.Laws.{length-cells, cells-more, cell-at-place, cells-same}
-use Rattle.ring.specs.Ring.{Sight, sight, noted, further}
+use Rattle.ring.specs.Ring.{sight, noted, further}
 use Rattle.ring.specs.State.{cellsBetween, sightIn, Grown}
 
 -- ---- growing
