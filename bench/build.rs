@@ -1,9 +1,11 @@
 //! Links the library: what TISHKOLAN_LIBRARY names, as bench/run sets it. Calls that it does not
 //! have are not timed.
 
-const GROUPS: [(&str, &str); 2] = [
+const GROUPS: [(&str, &str); 4] = [
     ("aggregates", "tishkolan_values_rollup"),
     ("survey", "tishkolan_survey_write"),
+    ("rings", "tishkolan_k_ring"),
+    ("lines", "tishkolan_trace_line"),
 ];
 
 fn main() {
