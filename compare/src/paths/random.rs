@@ -49,14 +49,36 @@ impl Random {
         }
     }
 
+    /// Mostly with all neighbours, some of them a few steps from an edge.
+    fn center(&mut self) -> CellID {
+        if self.chance(5) {
+            return self.start();
+        }
+        let odd = self.below(2) as i64;
+        let most = self.one_of(&[10, 1_000_000_000]);
+        let mut point = [(); 3].map(|()| self.between(-most, most) & !1 | odd);
+        if self.chance(4) {
+            let off = self.between(2, 12) & !1;
+            point[self.place(3)] = match self.below(2) {
+                0 => i64::from(i32::MIN) + off + odd,
+                _ => i64::from(i32::MAX) - off - (1 - odd),
+            };
+        }
+        let rest = match self.below(3) {
+            0 => 1 << self.below(16),
+            _ => 0,
+        };
+        at(self.next() as u8, self.next() as u8, point, rest)
+    }
+
     fn around(&mut self) -> Request {
         let call = self.one_of(&[Call::Ring, Call::Shell]);
-        let (center, k) = (self.start(), self.k());
+        let (center, k) = (self.center(), self.k());
         // Rooms of a k that ends serve an endless one too.
         let taken = reading::taken(call == Call::Ring, center, k.min(10));
         let rooms = Rooms {
-            known: self.about(taken.known),
-            waiting: self.about(taken.waiting),
+            known: self.about(taken.known).max(1),
+            waiting: self.about(taken.waiting).max(1),
             output: self.about(taken.output),
         };
         let mut around = Around::within(center, k, rooms);
