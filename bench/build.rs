@@ -1,10 +1,12 @@
 //! Links the library: what TISHKOLAN_LIBRARY names, as bench/run sets it. Calls that it does not
 //! have are not timed.
 
-const GROUPS: [(&str, &str); 3] = [
+const GROUPS: [(&str, &str); 5] = [
     ("aggregates", "tishkolan_values_rollup"),
     ("survey", "tishkolan_survey_write"),
     ("routes", "tishkolan_route_verdict"),
+    ("rings", "tishkolan_k_ring"),
+    ("lines", "tishkolan_trace_line"),
 ];
 
 fn main() {

@@ -2,14 +2,21 @@
 //! the same inputs, in turn, in one run. Prints nanoseconds per call and the library's time over the
 //! Rust's. The two must give the same answers.
 //!
-//!   bench [cells] [layers] [aggregates] [survey] [routes]    those lines alone
+//!   bench [cells] [layers] [aggregates] [survey] [routes] [rings] [lines]    those lines alone
 
 #[cfg(aggregates)]
 mod aggregates;
 mod cells;
-#[cfg_attr(not(all(aggregates, survey, routes)), allow(dead_code))]
+#[cfg_attr(
+    not(all(aggregates, survey, routes, rings, lines)),
+    allow(dead_code)
+)]
 mod face;
 mod layers;
+#[cfg(lines)]
+mod lines;
+#[cfg(rings)]
+mod rings;
 #[cfg(routes)]
 mod routes;
 #[cfg(survey)]
@@ -37,18 +44,34 @@ mod routes {
     }
 }
 
+#[cfg(not(rings))]
+mod rings {
+    pub fn rows() {
+        println!("rings: not in this library");
+    }
+}
+
+#[cfg(not(lines))]
+mod lines {
+    pub fn rows() {
+        println!("lines: not in this library");
+    }
+}
+
 fn main() {
     let words: Vec<String> = std::env::args().skip(1).collect();
     println!(
         "{:38} {:>11} {:>11} {:>8} {:>11}",
         "ns per call", "library", "Rust", "ratio", "of it test"
     );
-    let groups: [(&str, fn()); 5] = [
+    let groups: [(&str, fn()); 7] = [
         ("cells", cells::rows),
         ("layers", layers::rows),
         ("aggregates", aggregates::rows),
         ("survey", survey::rows),
         ("routes", routes::rows),
+        ("rings", rings::rows),
+        ("lines", lines::rows),
     ];
     for (name, rows) in groups {
         if words.is_empty() || words.iter().any(|word| word == name) {

@@ -18,6 +18,7 @@ pub const NO_VALUES: u32 = 5;
 pub const HAS_NAN: u32 = 6;
 pub const COORD_OVERFLOW: u32 = 9;
 pub const NO_ROOM: u32 = 10;
+pub const BAD_WORKSPACE: u32 = 11;
 pub const BAD_FILE: u32 = 12;
 pub const BAD_LIST: u32 = 13;
 pub const BAD_LAYER: u32 = 14;
@@ -60,7 +61,7 @@ impl Refusal {
         }
     }
 
-    fn mixed(x: i32, y: i32, z: i32) -> Refusal {
+    pub fn mixed(x: i32, y: i32, z: i32) -> Refusal {
         Refusal {
             number: INVALID_PARITY,
             room: 0,
@@ -138,7 +139,7 @@ thread_local! {
 
 /// Runs the Rust. An overflow is CoordOverflow; an `unwrap` of InvalidParity is that refusal, with
 /// the coordinates that the panic names.
-fn run<T>(call: impl FnOnce() -> T) -> Result<T, Refusal> {
+pub(crate) fn run<T>(call: impl FnOnce() -> T) -> Result<T, Refusal> {
     RUNNING.set(true);
     let ran = catch_unwind(AssertUnwindSafe(call));
     RUNNING.set(false);

@@ -7,6 +7,7 @@ pub mod inputs;
 pub mod layers;
 pub mod lent;
 mod library;
+pub mod paths;
 mod pipe;
 pub mod random;
 pub mod routes;

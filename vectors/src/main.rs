@@ -1,9 +1,9 @@
-//! Writes two fixed lists of the oracle's answers, which the crate `replay` replays with no Rust at hand.
+//! Writes three fixed lists of the oracle's answers, which the crate `replay` replays with no Rust at hand.
 //! No library is involved, and the files are the same each time.
 //!
-//!     vectors [FOLDER]      answers.bin and layers.bin, in crates/replay/data unless named
+//!     vectors [FOLDER]      answers.bin, layers.bin and paths.bin, in crates/replay/data unless named
 //!
-//! `layers.bin` is described in layers.rs. `answers.bin` is records of 64 bytes, at most 1,000, all numbers big-endian:
+//! `layers.bin` is described in layers.rs, `paths.bin` in paths.rs. `answers.bin` is records of 64 bytes, at most 1,000, all numbers big-endian:
 //!
 //! | bytes | what |
 //! |---|---|
@@ -46,6 +46,7 @@
 //! | 24 | cell_manhattan_distance(first, second) | i32 |
 
 mod layers;
+mod paths;
 
 use compare::calls::{Call, Parameter, Request};
 use compare::expected::{expected, quiet, Answer};
@@ -596,4 +597,5 @@ fn main() {
     cells(&mut list);
     write(&folder, "answers.bin", &list.bytes, 1000);
     write(&folder, "layers.bin", &layers::records(), 400);
+    write(&folder, "paths.bin", &paths::records(), 100);
 }

@@ -15,16 +15,16 @@ type Sink<'a> = crate::side_by_side::Sink<'a, Request>;
 const MOST_CELLS: usize = 65_535;
 
 impl Random {
-    fn chance(&mut self, of: u64) -> bool {
+    pub(crate) fn chance(&mut self, of: u64) -> bool {
         self.below(of) == 0
     }
 
-    fn place(&mut self, length: usize) -> usize {
+    pub(crate) fn place(&mut self, length: usize) -> usize {
         self.below(length as u64) as usize
     }
 
     /// Mostly a lattice point: near the middle, near an edge, or anywhere.
-    fn start(&mut self) -> CellID {
+    pub(crate) fn start(&mut self) -> CellID {
         let (least, most) = (i64::from(i32::MIN), i64::from(i32::MAX));
         let mut point = [(); 3].map(|()| match self.below(4) {
             0 => self.between(-3, 3),

@@ -1,7 +1,7 @@
 // The Rust oracle's answers on layers, replayed: each record is a call on one of three tables of 8 records, which are kept from call to call.
 // vectors/src/layers.rs has the format of a record and the numbers of the calls.
 ghost use mathlib.Core.Path.{_≡_};
-ghost use Prim.Native.Nat.{_/_, _≤_, _<_};
+ghost use Prim.Native.Nat.{_/_, _≤_};
 ghost use lib.ListN.{length};
 ghost use Rattle.answers.specs.Counted.{Counted};
 use crate::Tally;
@@ -89,30 +89,10 @@ fn same_kept(record: &[u8; 64], told: KeptTold) -> bool {
         && told.count == crate::bits(record, 40)
 }
 
-fn weighed(place: usize, byte: u8) -> u64
-    requires { ⌜ place < 192 ⌝ }
-    ensures { λ r. ⌜ r < 49152 ⌝ }
-{
-    (place as u64 + 1) * (byte as u64)
-}
-
-// A number that tells tables apart: each byte times its place, counted from 1.
-fn check_number(table: &[u8]) -> u64
-    requires { ⌜ length (now table) ≤ 192 ⌝ }
-{
-    let mut sum = 0;
-    let mut i = 0;
-    while i < table.len() {
-        sum += weighed(i, table[i]);
-        i += 1;
-    }
-    sum
-}
-
 fn same_table(record: &[u8; 64], table: &[u8]) -> bool
     requires { ⌜ length (now table) ≤ 192 ⌝ }
 {
-    check_number(table) == crate::bits(record, 48)
+    crate::check_number(table) == crate::bits(record, 48)
 }
 
 // ---- the calls

@@ -15,6 +15,7 @@ use tishkolan::told::PointTold;
 use tishkolan::told::RefusalTold;
 
 pub mod layers;
+pub mod paths;
 
 // What a lent buffer holds before a call, and still holds where the call has nothing to write.
 const UNTOUCHED: u8 = 0xA5;
@@ -26,6 +27,14 @@ pub struct Tally {
     pub answers: usize,
     pub differ: usize,
     pub first: usize,
+}
+
+// What the records of a list are, each a call by itself.
+enum Form {
+    // Points and cells.
+    Cells,
+    // Rings and lines.
+    Paths,
 }
 
 // ---- what stands in a record
@@ -122,6 +131,28 @@ fn refused_number(record: &[u8; 64], at: usize) -> i32
     0
 }
 
+// ---- what tells buffers apart
+
+fn weighed(place: usize, byte: u8) -> u64
+    requires { ⌜ place < 3200 ⌝ }
+    ensures { λ r. ⌜ r < 819200 ⌝ }
+{
+    (place as u64 + 1) * (byte as u64)
+}
+
+// A number that tells buffers apart: each byte times its place, counted from 1.
+fn check_number(buffer: &[u8]) -> u64
+    requires { ⌜ length (now buffer) ≤ 3200 ⌝ }
+{
+    let mut sum = 0;
+    let mut i = 0;
+    while i < buffer.len() {
+        sum += weighed(i, buffer[i]);
+        i += 1;
+    }
+    sum
+}
+
 // ---- whether what is told is what the record expects
 
 fn same_place(record: &[u8; 64], x: i32, y: i32, z: i32) -> bool {
@@ -188,16 +219,24 @@ fn same_cell(record: &[u8; 64], out: &[u8; 256], at: usize) -> bool
     true
 }
 
-// Whether nothing was written from `from` on.
-fn kept_bytes(out: &[u8; 256], from: usize) -> bool {
-    let mut i = from;
-    while i < 256 {
-        if out[i] != UNTOUCHED {
+// Whether each byte is this one.
+fn filled(bytes: &[u8], byte: u8) -> bool {
+    let mut i = 0;
+    while i < bytes.len() {
+        if bytes[i] != byte {
             return false;
         }
         i += 1;
     }
     true
+}
+
+// Whether nothing was written from `from` on.
+fn kept_bytes(out: &[u8; 256], from: usize) -> bool
+    requires { ⌜ from ≤ 256 ⌝ }
+{
+    let whole = &out[..];
+    filled(&whole[from..], UNTOUCHED)
 }
 
 fn kept_numbers(out: &[i32; 256], from: usize) -> bool {
@@ -462,11 +501,14 @@ fn record_at(list: &[u8], at: usize) -> [u8; 64]
     record
 }
 
-fn agrees_at(list: &[u8], at: usize) -> bool
+fn agrees_at(list: &[u8], at: usize, form: Form) -> bool
     requires { ⌜ at + 64 ≤ length (now list) ⌝ }
 {
     let record = record_at(list, at);
-    agrees(&record)
+    match form {
+        Form::Cells => agrees(&record),
+        Form::Paths => paths::agrees(&record),
+    }
 }
 
 // The tally of no record.
@@ -508,14 +550,21 @@ fn tallied(tally: Tally, agrees: bool) -> Tally
     }
 }
 
-// Replays each record of the list. A rest that is no whole record is left out.
-pub fn replay(list: &[u8]) -> Tally
+// Replays each record of the list by itself. A rest that is no whole record is left out.
+fn replay_each(list: &[u8], form: Form) -> Tally
     ensures { λ t. ⌜ Counted (length (now (list .entry)) / 64) t ⌝ }
 {
     let records = list.len() / 64;
     let mut tally = nothing();
     while tally.answers < records {
-        tally = tallied(tally, agrees_at(list, 64 * tally.answers));
+        tally = tallied(tally, agrees_at(list, 64 * tally.answers, form));
     }
     tally
+}
+
+// Replays the list of points and cells.
+pub fn replay(list: &[u8]) -> Tally
+    ensures { λ t. ⌜ Counted (length (now (list .entry)) / 64) t ⌝ }
+{
+    replay_each(list, Form::Cells)
 }

@@ -1,11 +1,15 @@
-// Replays the two lists of the Rust oracle's answers that its arguments name, first that of points and cells, then that of layers, and prints
+// Replays the three lists of the Rust oracle's answers that its arguments name, of points and cells, of layers, and of rings and lines, and prints
 // of each how many of the calls answer otherwise. They were made by `oracle/build` and `target/oracle/checked/vectors crates/replay/data`, from
 // the Rust files of oracle/octaindex3d with the patches of oracle/patches; tests/run makes them anew and compares.
 use answers::Tally;
 use libc::STDOUT_FILENO;
 
-// The number of the argument that names the list of layers.
+// The numbers of the arguments that name the lists.
+const CELLS: usize = 1;
+
 const LAYERS: usize = 2;
+
+const PATHS: usize = 3;
 
 // The answers, those that differ, and the first of them.
 fn print_tally(tally: Tally, what: &[u8]) {
@@ -19,13 +23,20 @@ fn print_tally(tally: Tally, what: &[u8]) {
     }
 }
 
+fn report_answers(list: &[u8], argument: usize) {
+    match argument {
+        LAYERS => print_tally(answers::layers::replay(list), b" answers on layers, "),
+        PATHS => print_tally(
+            answers::paths::replay(list),
+            b" answers on rings and lines, ",
+        ),
+        _ => print_tally(answers::replay(list), b" answers, "),
+    }
+}
+
 // One line, which also says whether the list is cut off.
 fn report(list: &[u8], argument: usize) {
-    if argument == LAYERS {
-        print_tally(answers::layers::replay(list), b" answers on layers, ");
-    } else {
-        print_tally(answers::replay(list), b" answers, ");
-    }
+    report_answers(list, argument);
     if list.len() % 64 != 0 {
         io::write_all(STDOUT_FILENO, b", and the list ends inside a record");
     }
@@ -47,6 +58,7 @@ fn replay(argument: usize) {
 }
 
 fn main() {
-    replay(1);
+    replay(CELLS);
     replay(LAYERS);
+    replay(PATHS);
 }

@@ -6,7 +6,7 @@
 use original::id::CellID;
 use original::lattice::{Lattice, LatticeCoord};
 use original::layer::{Aggregation, Layer};
-use original::path::{astar_with_limit, EuclideanCost};
+use original::path::{astar_with_limit, k_ring, k_shell, trace_line, EuclideanCost};
 use std::panic::catch_unwind;
 
 fn coord(x: i32, y: i32, z: i32) -> LatticeCoord {
@@ -61,6 +61,8 @@ fn mixed_parity_is_a_panic() {
     assert_eq!((mixed.x(), mixed.y(), mixed.z()), (0, 1, 0));
     assert!(catch_unwind(|| mixed.neighbors()).is_err());
     assert!(catch_unwind(|| mixed.cell_between(plain(0, 0, 0))).is_err());
+    assert!(catch_unwind(|| k_ring(mixed, 1)).is_err());
+    assert!(catch_unwind(|| k_shell(mixed, 1)).is_err());
 }
 
 #[test]
@@ -78,6 +80,21 @@ fn unchecked_points_are_answered() {
     assert_eq!(Lattice::get_children(&mixed).len(), 8);
     let parent = Lattice::get_parent(&mixed);
     assert_eq!((parent.x, parent.y, parent.z), (0, 0, 0));
+}
+
+#[test]
+fn rings_wrap_and_have_no_limit() {
+    let ring = k_ring(plain(2147483646, 0, 0), 1);
+    assert_eq!(ring.len(), 15);
+    assert!(ring.contains(&plain(-2147483648, 0, 0)));
+    assert_eq!(k_ring(plain(0, 0, 0), 25).len(), 66_351);
+}
+
+#[test]
+fn lines_wrap() {
+    // The difference comes out as -2, and all four samples are out of range.
+    let (low, high) = (plain(-2147483648, 0, 0), plain(2147483646, 0, 0));
+    assert_eq!(trace_line(low, high), Ok(vec![low, high]));
 }
 
 #[test]

@@ -7,7 +7,7 @@ use oracle::error::Error;
 use oracle::id::CellID;
 use oracle::lattice::{Lattice, LatticeCoord};
 use oracle::layer::{Aggregation, Layer};
-use oracle::path::{astar_with_limit, k_ring, trace_line, EuclideanCost};
+use oracle::path::{astar_with_limit, k_ring, k_shell, trace_line, EuclideanCost};
 use std::panic::catch_unwind;
 
 fn plain(x: i32, y: i32, z: i32) -> CellID {
@@ -134,6 +134,11 @@ fn line_and_rings() {
     assert_eq!(trace_line(start, flagged), Ok(vec![start, flagged]));
     assert_eq!([1, 2].map(|k| k_ring(start, k).len()), [15, 65]);
     assert_eq!([1, 2].map(|k| k_ring(flagged, k).len()), [15, 66]);
+    // Not looked at: no steps, and equal ends.
+    let mixed = any(0, 1, 0);
+    assert_eq!(k_ring(mixed, 0), [mixed]);
+    assert_eq!(k_shell(mixed, 0), [mixed]);
+    assert_eq!(trace_line(mixed, mixed), Ok(vec![mixed]));
 }
 
 #[test]
@@ -169,6 +174,9 @@ fn overflow_is_a_panic() {
         panics(|| coord(0, 0, 0).distance_to(&coord(i32::MIN, 0, 0))),
         panics(|| coord(i32::MIN, 0, 0).manhattan_distance_to(&coord(0, 0, 0))),
         panics(|| plain(0, 0, 0).cell_between(any(i32::MIN, 0, 0))),
+        panics(|| k_ring(any(2147483646, 0, 0), 1)),
+        panics(|| k_shell(any(2147483646, 0, 0), 1)),
+        panics(|| trace_line(any(i32::MIN, 0, 0), any(0, 0, 0))),
     ] {
         assert!(call.ends_with("with overflow"), "{call}");
     }
@@ -179,6 +187,7 @@ fn mixed_parity_is_a_panic() {
     for call in [
         panics(|| any(0, 1, 0).neighbors()),
         panics(|| k_ring(any(0, 1, 0), 1)),
+        panics(|| k_shell(any(0, 1, 0), 1)),
         panics(|| any(0, 1, 0).cell_between(any(0, 0, 0))),
     ] {
         assert!(

@@ -1,4 +1,4 @@
--- As `kept_bytes`, of numbers.
+-- As `filled`, of numbers.
 use borrow.Author.Needs.{needs}
 use Prim.Native.Nat.{_-_}
 use Rattle.answers.proofs.kept_numbers.Statement.{statement}

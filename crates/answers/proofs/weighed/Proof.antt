@@ -1,14 +1,14 @@
--- A byte times a place of at most 192 is below 192 * 256.
+-- A byte times a place of at most 3200 is below 3200 * 256.
 use borrow.Author.Needs.{needs}
 use native.Mathlib.Omega.{arith}
 use native.Mathlib.Nat.{mul-le-mul}
 use Prim.Native.Nat.{ℕ, _+_, _*_, _<_, _≤_}
-use Rattle.answers.proofs.layers.weighed.Statement.{statement}
-use Rattle.answers.proofs.layers.weighed.Tie as tie
+use Rattle.answers.proofs.weighed.Statement.{statement}
+use Rattle.answers.proofs.weighed.Tie as tie
 
-weight-below : (place byte : ℕ) → place < 192 → byte < 256 → (place + 1) * byte < 49152
+weight-below : (place byte : ℕ) → place < 3200 → byte < 256 → (place + 1) * byte < 819200
 weight-below place byte p b =
-    let most : (place + 1) * byte ≤ 192 * 255 = mul-le-mul {n₂ = 192} {m₂ = 255} (omega arith) (omega arith) in
+    let most : (place + 1) * byte ≤ 3200 * 255 = mul-le-mul {n₂ = 3200} {m₂ = 255} (omega arith) (omega arith) in
     omega arith
 
 add-result : tie.Need-add-result

@@ -1,15 +1,15 @@
--- Each turn adds less than 49152, and there are at most 192 turns.
+-- Each turn adds less than 819200, and there are at most 3200 turns.
 use borrow.Author.Needs.{needs}
 use Prim.Native.Nat.{_≤_, _*_, _-_}
 use lib.ListN.{length}
-use Rattle.answers.proofs.layers.check_number.Statement.{statement}
-use Rattle.answers.proofs.layers.check_number.Tie as tie
+use Rattle.answers.proofs.check_number.Statement.{statement}
+use Rattle.answers.proofs.check_number.Tie as tie
 
 abbrev Inv-loop : tie.InvT-loop
-Inv-loop table sum₀ i₀ sum i = (i ≤ length table) × (sum ≤ 49152 * i)
+Inv-loop buffer sum₀ i₀ sum i = (i ≤ length buffer) × (sum ≤ 819200 * i)
 
 abbrev μ-loop : tie.MeasureT-loop
-μ-loop table sum₀ i₀ sum i = length table - i
+μ-loop buffer sum₀ i₀ sum i = length buffer - i
 
 loop-holds : tie.Need-loop-holds Inv-loop μ-loop
 loop-holds c = search needs

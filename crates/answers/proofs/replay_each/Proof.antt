@@ -2,14 +2,14 @@
 use borrow.Author.Needs.{needs}
 use Prim.Native.Nat.{_≤_, _-_}
 use Rattle.answers.specs.Counted.{Counted}
-use Rattle.answers.proofs.replay.Statement.{statement}
-use Rattle.answers.proofs.replay.Tie as tie
+use Rattle.answers.proofs.replay_each.Statement.{statement}
+use Rattle.answers.proofs.replay_each.Tie as tie
 
 abbrev Inv-loop : tie.InvT-loop
-Inv-loop list records tally₀ tally = (tally .answers ≤ records) × Counted (tally .answers) tally
+Inv-loop list form records tally₀ tally = (tally .answers ≤ records) × Counted (tally .answers) tally
 
 abbrev μ-loop : tie.MeasureT-loop
-μ-loop list records tally₀ tally = records - tally .answers
+μ-loop list form records tally₀ tally = records - tally .answers
 
 nothing-requires : tie.Need-nothing-requires Inv-loop μ-loop
 nothing-requires c κs = search needs
@@ -35,8 +35,8 @@ loop-again c = search needs
 returns : tie.Need-returns Inv-loop μ-loop
 returns c = search needs
 
-pub replay-spec : {M : Type 1} → statement M
-replay-spec =
+pub replay-each-spec : {M : Type 1} → statement M
+replay-each-spec =
     tie.close
     (tie.spec
     Inv-loop
