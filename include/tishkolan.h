@@ -225,7 +225,8 @@ enum {
     TISHKOLAN_BOUNDARY = 8
 };
 
-/* The layer's count after the call: where it refuses, the count that was given. */
+/* The layer's count after the call: where it refuses, the count that was given. Of a call that lists
+ * cells, how many they are, and 0 where it refuses. */
 typedef struct {
     tishkolan_refusal refusal;
     uint64_t count;
@@ -336,6 +337,43 @@ tishkolan_load_answer tishkolan_survey_load(const uint8_t *file, size_t file_len
 tishkolan_length_answer tishkolan_survey_write(const uint8_t *flags, size_t flags_length, size_t flags_count,
                                                const uint8_t *values, size_t values_length, size_t values_count,
                                                uint8_t *out, size_t out_length);
+
+/* ---- lists of cells, 16 bytes each, at the front of a buffer. The count is how many they are, and 0
+ * where the call refuses. */
+
+/* The cells along the line from start to end, both listed; equal ends are one cell, whatever their
+ * parity. Those sampled between have the start's frame and resolution and are plain. BAD_LIST;
+ * INVALID_PARITY of start, then of end; COORD_OVERFLOW where a coordinate of end less that of start
+ * leaves int32_t; NO_ROOM 3. There are two samples for each unit of the largest difference. */
+tishkolan_count_answer tishkolan_trace_line(const uint8_t *start, size_t start_length,
+                                            const uint8_t *end, size_t end_length,
+                                            uint8_t *output, size_t output_length);
+
+/* ---- rings: the cells around a cell, breadth first, from neighbour to neighbour.
+ * The walk takes place in a workspace that you lend, which may hold anything. You name the room for
+ * known cells, which are all that it has seen, and for waiting cells, which it has seen and not
+ * expanded; a cell that is expanded waits no more. Each is from 1 to 65,536.
+ * BAD_WORKSPACE, before anything else, where a room is another number or the workspace is shorter
+ * than TISHKOLAN_RING_BYTES(known); it leaves the workspace as it was. Every other answer or refusal
+ * leaves all of the workspace zero, also behind those bytes. */
+
+/* Waiting cells take no bytes of their own. */
+#define TISHKOLAN_RING_BYTES(known) ((size_t)44 * (known))
+
+/* The cells within k steps of a centre, the centre first, in the order of first sight; the answer's
+ * count says how many, and is 0 where the call refuses. BAD_LIST; then, as the walk meets them,
+ * INVALID_PARITY and COORD_OVERFLOW (as of tishkolan_cell_neighbors) of cells at fewer than k steps,
+ * NO_ROOM 3 for a cell to be listed, NO_ROOM 1 and then 2 for a cell not seen before. */
+tishkolan_count_answer tishkolan_k_ring(const uint8_t *center, size_t center_length, uint64_t k,
+                                        size_t known, size_t waiting,
+                                        uint8_t *workspace, size_t workspace_length,
+                                        uint8_t *out, size_t out_length);
+
+/* The same of the cells at exactly k steps; only they are listed. */
+tishkolan_count_answer tishkolan_k_shell(const uint8_t *center, size_t center_length, uint64_t k,
+                                         size_t known, size_t waiting,
+                                         uint8_t *workspace, size_t workspace_length,
+                                         uint8_t *out, size_t out_length);
 
 /* ---- the route checker.
  * A route is a list of cells, 16 bytes each; its cost is the sum of its steps as doubles, from 0.0,

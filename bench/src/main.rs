@@ -2,18 +2,20 @@
 //! the same inputs, in turn, in one run. Prints nanoseconds per call and the library's time over the
 //! Rust's. The two must give the same answers.
 //!
-//!   bench [cells] [layers] [aggregates] [survey] [rings] [lines]    those alone
+//!   bench [cells] [layers] [aggregates] [survey] [routes] [rings] [lines]    those alone
 
 #[cfg(aggregates)]
 mod aggregates;
 mod cells;
-#[cfg_attr(not(all(aggregates, survey, rings, lines)), allow(dead_code))]
+#[cfg_attr(not(all(aggregates, survey, routes, rings, lines)), allow(dead_code))]
 mod face;
 mod layers;
 #[cfg(lines)]
 mod lines;
 #[cfg(rings)]
 mod rings;
+#[cfg(routes)]
+mod routes;
 #[cfg(survey)]
 mod survey;
 mod timing;
@@ -29,6 +31,13 @@ mod aggregates {
 mod survey {
     pub fn rows() {
         println!("survey files: not in this library");
+    }
+}
+
+#[cfg(not(routes))]
+mod routes {
+    pub fn rows() {
+        println!("routes: not in this library");
     }
 }
 
@@ -52,11 +61,12 @@ fn main() {
         "{:38} {:>11} {:>11} {:>8} {:>11}",
         "ns per call", "library", "Rust", "ratio", "of it test"
     );
-    let groups: [(&str, fn()); 6] = [
+    let groups: [(&str, fn()); 7] = [
         ("cells", cells::rows),
         ("layers", layers::rows),
         ("aggregates", aggregates::rows),
         ("survey", survey::rows),
+        ("routes", routes::rows),
         ("rings", rings::rows),
         ("lines", lines::rows),
     ];

@@ -513,17 +513,12 @@ fn choices(sink: Sink) {
     let mut random = Random::new(11);
     let sent = walk(starts()[1], 6, &mut random);
     let homing = walk(starts()[0], 4, &mut random);
-    let mut all = beside(&sent, 9);
-    all.extend(beside(&homing, 9));
+    let mut around = beside(&sent, 9);
+    around.extend(beside(&homing, 9));
+    around.retain(|(cell, _)| !sent.contains(cell) && !homing.contains(cell));
     let on = |cells: &[CellID]| {
-        let mut records = all.clone();
+        let mut records = around.clone();
         records.extend(cells.iter().map(|&cell| (cell, 1)));
-        records
-            .iter_mut()
-            .filter(|record| !cells.contains(&record.0))
-            .for_each(|record| {
-                record.1 &= u32::from(!(sent.contains(&record.0) || homing.contains(&record.0)))
-            });
         records
     };
     let layers = [

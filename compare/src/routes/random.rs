@@ -33,7 +33,7 @@ impl Random {
             _ => self.between(least, most),
         });
         if !self.chance(20) {
-            // One parity; an odd number stays in range when its last bit is cleared or kept.
+            // One parity, in 32 bits still.
             let odd = self.below(2) as i64;
             point = point.map(|number| number & !1 | odd);
         }

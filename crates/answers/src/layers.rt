@@ -1,12 +1,15 @@
 // The Rust oracle's answers on layers, replayed: each record is a call on one of three tables of 8 records, which are kept from call to call.
 // vectors/src/layers.rs has the format of a record and the numbers of the calls.
+ghost use mathlib.Core.Path.{_≡_};
 ghost use Prim.Native.Nat.{_/_, _≤_, _<_};
 ghost use lib.ListN.{length};
 ghost use Rattle.answers.specs.Counted.{Counted};
 use crate::Tally;
 use cell::twos;
+use tishkolan::aggregates;
 use tishkolan::layers;
 use tishkolan::told;
+use tishkolan::told::BitsTold;
 use tishkolan::told::CountTold;
 use tishkolan::told::KeptTold;
 use tishkolan::told::NumberTold;
@@ -24,11 +27,6 @@ struct Replayed {
     agrees: bool,
     counts: Counts,
 }
-
-// Calls that the C face does not have yet: their records are skipped.
-const AGGREGATE: u8 = 21;
-
-const ROLLUP: u8 = 22;
 
 // ---- what a call says, told alike of all calls
 
@@ -49,6 +47,17 @@ fn of_contained(count: usize, t: NumberTold) -> KeptTold {
         refusal,
         found: twos::bits_of(t.value),
         kept: 0,
+        count: count as u64,
+    }
+}
+
+// The aggregate stands where the others tell what is kept; the count stays.
+fn of_aggregate(count: usize, t: BitsTold) -> KeptTold {
+    let refusal = t.refusal;
+    KeptTold {
+        refusal,
+        found: 0,
+        kept: t.bits,
         count: count as u64,
     }
 }
@@ -108,8 +117,46 @@ fn same_table(record: &[u8; 64], table: &[u8]) -> bool
 
 // ---- the calls
 
-fn cell(record: &[u8; 64]) -> &[u8] {
+fn cell_bytes(record: &[u8; 64]) -> &[u8] {
     crate::slice(record, 8, 16)
+}
+
+// The record's cell, then those of the table's 8 records.
+fn cells_asked(record: &[u8; 64], table: &[u8; 192]) -> [u8; 144]
+    ensures { λ r. ⌜ length r ≡ 144 ⌝ }
+{
+    let mut cells = [0; 144];
+    cell::write_at(&mut cells, 0, cell::read_at(record, 8));
+    let mut i = 0;
+    while i < 8 {
+        cell::write_at(&mut cells, 16 * (i + 1), cell::read_at(table, 24 * i));
+        i += 1;
+    }
+    cells
+}
+
+// The bytes of the record's cell and of those in use.
+fn asked_length(count: usize) -> usize
+    ensures { λ r. ⌜ r ≤ 144 ⌝ }
+{
+    if count < 8 {
+        return 16 * (count + 1);
+    }
+    144
+}
+
+fn aggregate(record: &[u8; 64], table: &[u8; 192], count: usize) -> KeptTold {
+    let cells = cells_asked(record, table);
+    let length = asked_length(count);
+    of_aggregate(
+        count,
+        aggregates::tishkolan_values_aggregate(
+            table,
+            count,
+            &cells[..length],
+            crate::wide(record[1]),
+        ),
+    )
 }
 
 fn flags_call(record: &[u8; 64], table: &mut [u8; 160], count: usize) -> KeptTold {
@@ -118,14 +165,14 @@ fn flags_call(record: &[u8; 64], table: &mut [u8; 160], count: usize) -> KeptTol
         1 => of_count(layers::tishkolan_flags_set(
             table,
             count,
-            cell(record),
+            cell_bytes(record),
             words::read32_big(record, 28),
         )),
-        2 => layers::tishkolan_flags_get(table, count, cell(record)),
-        3 => layers::tishkolan_flags_remove(table, count, cell(record)),
+        2 => layers::tishkolan_flags_get(table, count, cell_bytes(record)),
+        3 => layers::tishkolan_flags_remove(table, count, cell_bytes(record)),
         4 => of_contained(
             count,
-            layers::tishkolan_flags_contains(table, count, cell(record)),
+            layers::tishkolan_flags_contains(table, count, cell_bytes(record)),
         ),
         _ => {
             layers::tishkolan_flags_clear(table);
@@ -140,15 +187,16 @@ fn values_call(record: &[u8; 64], table: &mut [u8; 192], count: usize) -> KeptTo
         11 => of_count(layers::tishkolan_values_set(
             table,
             count,
-            cell(record),
+            cell_bytes(record),
             crate::bits(record, 24),
         )),
-        12 => layers::tishkolan_values_get(table, count, cell(record)),
-        13 => layers::tishkolan_values_remove(table, count, cell(record)),
+        12 => layers::tishkolan_values_get(table, count, cell_bytes(record)),
+        13 => layers::tishkolan_values_remove(table, count, cell_bytes(record)),
         14 => of_contained(
             count,
-            layers::tishkolan_values_contains(table, count, cell(record)),
+            layers::tishkolan_values_contains(table, count, cell_bytes(record)),
         ),
+        21 => aggregate(record, table, count),
         _ => {
             layers::tishkolan_values_clear(table);
             cleared()
@@ -182,6 +230,29 @@ fn on_values(record: &[u8; 64], table: &mut [u8; 192], counts: Counts) -> Replay
     }
 }
 
+fn on_coarse(
+    record: &[u8; 64],
+    values: &[u8; 192],
+    coarse: &mut [u8; 192],
+    counts: Counts,
+) -> Replayed {
+    let told = of_count(aggregates::tishkolan_values_rollup(
+        values,
+        counts.values,
+        crate::wide(record[1]),
+        coarse,
+        counts.coarse,
+    ));
+    Replayed {
+        agrees: same_kept(record, told) && same_table(record, coarse),
+        counts: Counts {
+            flags: counts.flags,
+            values: counts.values,
+            coarse: told.count as usize,
+        },
+    }
+}
+
 // Makes the record's call. What has no call's number agrees with nothing.
 fn replay_record(
     record: &[u8; 64],
@@ -193,33 +264,13 @@ fn replay_record(
     let call = record[0];
     match call {
         1..=5 => on_flags(record, flags, counts),
-        11..=15 => on_values(record, values, counts),
-        AGGREGATE | ROLLUP => Replayed {
-            agrees: true,
-            counts,
-        },
+        11..=15 | 21 => on_values(record, values, counts),
+        22 => on_coarse(record, values, coarse, counts),
         _ => Replayed {
             agrees: false,
             counts,
         },
     }
-}
-
-// How many records of the list are skipped.
-pub fn skipped(list: &[u8]) -> usize
-    ensures { λ r. ⌜ r ≤ length (now (list .entry)) / 64 ⌝ }
-{
-    let records = list.len() / 64;
-    let mut skipped = 0;
-    let mut i = 0;
-    while i < records {
-        let call = list[64 * i];
-        if call == AGGREGATE || call == ROLLUP {
-            skipped += 1;
-        }
-        i += 1;
-    }
-    skipped
 }
 
 // Replays each record of the list, in order. A rest that is no whole record is left out.

@@ -28,7 +28,7 @@ fn difference_fits(a: i32, b: i32) -> bool
 }
 
 // The same on all three axes.
-fn differences_fit(a: Coord, b: Coord) -> bool
+pub fn differences_fit(a: Coord, b: Coord) -> bool
     ensures { λ r. ⌜ r ≡ differencesFit a b ⌝ }
 {
     if difference_fits(a.x, b.x) {

@@ -358,7 +358,7 @@ fn difference(a: i32, b: i32) -> i64
 }
 
 // The distance from zero.
-fn absolute(d: i64) -> u32
+pub fn absolute(d: i64) -> u32
     requires { ⌜ natAbs d < 2 ^ 32 ⌝ }
     ensures { λ r. ⌜ r ≡ natAbs d ⌝ }
 {

@@ -53,7 +53,7 @@ get-of-rows w l n rs m c h read =
 -- ---- bytes
 
 -- the cell of 16 bytes is one of two words
-read-words : (m : List ℕ) (c : Cell) → Bytes m → fromBytesOf m ≡ cell.Is c → Words c
+pub read-words : (m : List ℕ) (c : Cell) → Bytes m → fromBytesOf m ≡ cell.Is c → Words c
 unfolding fromBytesOf cellAt
 read-words m c b e = by-length (eqb (length m) 16) e
   where

@@ -19,19 +19,10 @@ fn print_tally(tally: Tally, what: &[u8]) {
     }
 }
 
-fn print_skipped(skipped: usize) {
-    if skipped > 0 {
-        io::write_all(STDOUT_FILENO, b", ");
-        io::print_decimal(STDOUT_FILENO, skipped as u64);
-        io::write_all(STDOUT_FILENO, b" skipped");
-    }
-}
-
 // One line, which also says whether the list is cut off.
 fn report(list: &[u8], argument: usize) {
     if argument == LAYERS {
         print_tally(answers::layers::replay(list), b" answers on layers, ");
-        print_skipped(answers::layers::skipped(list));
     } else {
         print_tally(answers::replay(list), b" answers, ");
     }

@@ -6,5 +6,8 @@ pub mod Found
 pub mod OneAnswer
 pub mod OneAnswerCells
 pub mod OneAnswerLayers
+pub mod OneAnswerPaths
 pub mod KnownPoints
 pub mod OneAnswerRoutes
+pub mod RingSaid
+pub mod OneAnswerRings

@@ -4,3 +4,4 @@ pub mod Cells
 pub mod Layers
 pub mod Aggregates
 pub mod Surveys
+pub mod Rings

@@ -1,0 +1,2 @@
+mod Samples
+mod OneAnswer

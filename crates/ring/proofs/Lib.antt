@@ -1,0 +1,11 @@
+pub mod Points
+pub mod Seen
+pub mod SeenAll
+pub mod Expanded
+pub mod Leveled
+pub mod Stepped
+pub mod Started
+pub mod Written
+pub mod Finished
+pub mod Ringed
+pub mod OneAnswer

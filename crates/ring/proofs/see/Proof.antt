@@ -1,0 +1,85 @@
+-- Each answer by the tests that led to it: is the cell known, is there known room, is there waiting room.
+use mathlib.Core.Path.{subst}
+use native.Mathlib.Omega.{arith}
+use borrow.Author.Needs.{needs}
+use Rattle.cell.specs.Laws.{Words}
+use Rattle.known.specs.Found.{Right}
+use Rattle.ring.proofs.Seen.{seen-known, no-known-room, no-waiting-room, seen-new}
+use Rattle.ring.proofs.see.Statement.{statement}
+use Rattle.ring.proofs.see.Tie as tie
+
+find-requires : tie.Need-find-requires
+find-requires c κs = search needs
+
+enum-told : tie.Need-enum-told
+enum-told c = search needs
+
+enum-told-2 : tie.Need-enum-told-2
+enum-told-2 c = search needs
+
+same-length : tie.Need-same-length
+same-length c = search needs
+
+returns : tie.Need-returns
+returns c =
+    let start = c .before .before .before .before .before .before .before in
+    let args = start .args in
+    let words : Words (args .c) = record { high-word = omega (arith, start .good); low-word = omega (arith, start .good) } in
+    no-known-room (args .rooms) (args .next) (args .count) (args .workspace .now) (args .c) (start .pre .0) (λ i. omega (arith, c .before .before .before .before .before .before .slice-known .given i)) words (subst (Right (args .workspace .now) (args .rooms .known) (args .count) (args .c)) (c .before .before .enum-told2 .given .1) (c .before .before .before .before .find .ensures)) (omega arith)
+
+sub-if2 : tie.Need-sub-if2
+sub-if2 c = search needs
+
+same-length-2 : tie.Need-same-length-2
+same-length-2 c = search needs
+
+returns-2 : tie.Need-returns-2
+returns-2 c =
+    let start = c .before .before .before .before .before .before .before .before .before in
+    let args = start .args in
+    let words : Words (args .c) = record { high-word = omega (arith, start .good); low-word = omega (arith, start .good) } in
+    no-waiting-room (args .rooms) (args .next) (args .count) (args .workspace .now) (args .c) (start .pre .0) (λ i. omega (arith, c .before .before .before .before .before .before .before .before .slice-known .given i)) words (subst (Right (args .workspace .now) (args .rooms .known) (args .count) (args .c)) (c .before .before .before .before .enum-told2 .given .1) (c .before .before .before .before .before .before .find .ensures)) (omega arith) (omega arith)
+
+add-requires : tie.Need-add-requires
+add-requires c κs = search needs
+
+add-t13 : tie.Need-add-t13
+add-t13 c = search needs
+
+same-length-3 : tie.Need-same-length-3
+same-length-3 c = search needs
+
+returns-3 : tie.Need-returns-3
+returns-3 c =
+    let start = c .before .before .before .before .before in
+    let args = start .args in
+    seen-known (args .rooms) (args .next) (args .count) (args .workspace .now) (args .c) (start .pre .0) _ (subst (Right (args .workspace .now) (args .rooms .known) (args .count) (args .c)) (c .enum-told .given .1) (c .before .before .find .ensures))
+
+same-length-4 : tie.Need-same-length-4
+same-length-4 c = search needs
+
+returns-4 : tie.Need-returns-4
+returns-4 c =
+    let start = c .before .before .before .before .before .before .before .before .before .before .before .before .before in
+    let args = start .args in
+    let words : Words (args .c) = record { high-word = omega (arith, start .good); low-word = omega (arith, start .good) } in
+    seen-new (args .rooms) (args .next) (args .count) (args .workspace .now) (args .c) (start .pre .0) (λ i. omega (arith, c .before .before .before .before .before .before .before .before .before .before .before .before .slice-known .given i)) words (subst (Right (args .workspace .now) (args .rooms .known) (args .count) (args .c)) (c .before .before .before .before .before .before .before .before .enum-told2 .given .1) (c .before .before .before .before .before .before .before .before .before .before .find .ensures)) (omega arith) (omega arith) (c .before .before .add .ensures)
+
+pub see-spec : {M : Type 1} → statement M
+see-spec =
+    tie.close
+    (tie.spec
+    find-requires
+    enum-told
+    enum-told-2
+    same-length
+    returns
+    sub-if2
+    same-length-2
+    returns-2
+    add-requires
+    add-t13
+    same-length-3
+    returns-3
+    same-length-4
+    returns-4)

@@ -1,0 +1,75 @@
+-- From the one known cell to the last cells, which are listed.
+use borrow.Author.Needs.{needs}
+use Rattle.ring.proofs.Started.{walked-stopped, walked-last, walked-all}
+use Rattle.ring.proofs.walk.Statement.{statement}
+use Rattle.ring.proofs.walk.Tie as tie
+
+clear-requires : tie.Need-clear-requires
+clear-requires c κs = search needs
+
+add-requires : tie.Need-add-requires
+add-requires c κs = search needs
+
+levels-requires : tie.Need-levels-requires
+levels-requires c κs = search needs
+
+enum-known-r : tie.Need-enum-known-r
+enum-known-r c = search needs
+
+enum-known-last : tie.Need-enum-known-last
+enum-known-last c = search needs
+
+finish-requires : tie.Need-finish-requires
+finish-requires c κs =
+    let told = c .before .before .before in
+    let levels = told .before .before .before .before in
+    let added = levels .before .before .before .before in
+    let emptied = added .before .before .before .before in
+    let start = emptied .before .before .before .before in
+    let args = start .args in
+    let last = walked-last (args .every) (args .rooms) (args .k) (args .c) (args .workspace .now) _ _ (emptied .clear .ensures) (added .add .ensures) _ (levels .levels .result) (levels .levels .ensures) _ (told .last .given .1) in
+    (last .known, (last .ordered, (last .listed, start .pre .1)))
+
+same-length : tie.Need-same-length
+same-length c = search needs
+
+returns : tie.Need-returns
+returns c =
+    let levels = c .before .before .before .before .before in
+    let added = levels .before .before .before .before in
+    let emptied = added .before .before .before .before in
+    let start = emptied .before .before .before .before in
+    let args = start .args in
+    walked-stopped (args .every) (args .rooms) (args .k) (args .c) (args .workspace .now) _ _ (emptied .clear .ensures) (added .add .ensures) _ (levels .levels .result) (levels .levels .ensures) _ (args .output .now) (c .before .r .given .1)
+
+same-length-2 : tie.Need-same-length-2
+same-length-2 c = search needs
+
+same-length-3 : tie.Need-same-length-3
+same-length-3 c = search needs
+
+returns-2 : tie.Need-returns-2
+returns-2 c =
+    let told = c .before .before .before .before .before .before in
+    let levels = told .before .before .before .before in
+    let added = levels .before .before .before .before in
+    let emptied = added .before .before .before .before in
+    let start = emptied .before .before .before .before in
+    let args = start .args in
+    walked-all (args .every) (args .rooms) (args .k) (args .c) (args .workspace .now) _ _ (emptied .clear .ensures) (added .add .ensures) _ (levels .levels .result) (levels .levels .ensures) _ (args .output .now) (told .last .given .1) (c .before .before .finish .ensures)
+
+pub walk-spec : {M : Type 1} → statement M
+walk-spec =
+    tie.close
+    (tie.spec
+    clear-requires
+    add-requires
+    levels-requires
+    enum-known-r
+    enum-known-last
+    finish-requires
+    same-length
+    returns
+    same-length-2
+    same-length-3
+    returns-2)
