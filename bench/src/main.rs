@@ -2,15 +2,12 @@
 //! the same inputs, in turn, in one run. Prints nanoseconds per call and the library's time over the
 //! Rust's. The two must give the same answers.
 //!
-//!   bench [cells] [layers] [aggregates] [survey] [routes] [rings] [lines]    those lines alone
+//!   bench [cells] [layers] [aggregates] [survey] [routes] [rings] [lines]    those alone
 
 #[cfg(aggregates)]
 mod aggregates;
 mod cells;
-#[cfg_attr(
-    not(all(aggregates, survey, routes, rings, lines)),
-    allow(dead_code)
-)]
+#[cfg_attr(not(all(aggregates, survey, routes, rings, lines)), allow(dead_code))]
 mod face;
 mod layers;
 #[cfg(lines)]
