@@ -15,6 +15,7 @@ use Rattle.lattice.specs.declared.ParityAnswer.the-variants as parity
 use Rattle.lattice.specs.Lattice.{parityOf}
 use Rattle.distance.specs.declared.DistanceAnswer.{DistanceAnswer}
 use Rattle.distance.specs.declared.DistanceAnswer.the-variants as distance
+use Rattle.distance.specs.Distance.{distanceOf}
 use Rattle.cell.specs.Cell.{coordOf, neighborsOf, distanceCells}
 use Rattle.layer.specs.Layer.{Row}
 use Rattle.route.specs.Route.{costBetween, isShut}
@@ -35,7 +36,7 @@ distanceBits (distance.Refused r) = refused r
 
 -- the ends and the limit, the rooms, the rule with the rows of the flag layer
 unfoldable pub planOf : Cell → Cell → ℕ → ℕ → ℕ → ℕ → List Row → Problem
-unfolding rawOf isShut neighborsOf costBetween
+unfolding rawOf isShut neighborsOf costBetween distanceOf toBits
 planOf s e known waiting limit rule rows =
     record {
       start = rawOf s;

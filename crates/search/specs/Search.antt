@@ -205,11 +205,12 @@ module _ (P : Problem) where
 
   -- ---- the whole search, between two ends of one parity that are not the same
 
-  -- so many pops at most
+  -- so many pops at most, and none once it is done
   unfoldable pub run : ℕ → Flow → Flow
   unfolding step
   run zero f = f
-  run (suc k) f = run k (andThen f step)
+  run (suc k) (done r) = done r
+  run (suc k) (going s) = run k (step s)
 
   abbrev pub first : ℕ → State
   first h = state (row (P .start) 0 (P .start) false ∷ []) (record { f = h; cell = P .start; g = 0 } ∷ []) 0
