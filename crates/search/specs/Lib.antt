@@ -1,2 +1,6 @@
 pub mod Search
 pub mod Plan
+mod Cases
+pub mod KnownLaws
+pub mod WaitingLaws
+mod Kept

@@ -1,0 +1,24 @@
+-- What holds of each waiting entry holds of each after another was put in its place. Assumes nothing.
+use mathlib.Core.Path.{_≡_, refl, ap}
+use mathlib.Core.List.{List, [], _∷_}
+use Prim.Native.Nat.{suc}
+use lib.Dec.{leb}
+use lib.ListN.{length}
+use Rattle.lattice.specs.Tables.{Each}
+use Rattle.search.specs.Search.{Entry, keyOf, insert}
+use Rattle.search.specs.Cases.{on-test}
+
+pub each-insert : (Q : Entry → Type 0) (e : Entry) (w : List Entry) → Each Q w → Q e → Each Q (insert e w)
+unfolding insert
+each-insert Q e [] h q = (q, tt)
+each-insert Q e (d ∷ ds) h q = on-test (Each Q) (leb (keyOf e) (keyOf d)) (e ∷ d ∷ ds) (d ∷ insert e ds) (λ t. (q, h)) (λ t. (h .0, each-insert Q e ds (h .1) q))
+
+pub length-insert : (e : Entry) (w : List Entry) → length (insert e w) ≡ suc (length w)
+unfolding insert
+length-insert e [] = refl
+length-insert e (d ∷ ds) = on-test (λ (l : List Entry). length l ≡ suc (suc (length ds))) (leb (keyOf e) (keyOf d)) (e ∷ d ∷ ds) (d ∷ insert e ds) (λ t. refl) (λ t. ap suc (length-insert e ds))
+
+-- what follows of each from what holds of it
+pub each-follows : {A : Type 0} (Q R : A → Type 0) → ((x : A) → Q x → R x) → (l : List A) → Each Q l → Each R l
+each-follows Q R f [] h = tt
+each-follows Q R f (x ∷ l) h = (f x (h .0), each-follows Q R f l (h .1))
