@@ -4,3 +4,4 @@ mod Cases
 pub mod KnownLaws
 pub mod WaitingLaws
 mod Kept
+mod Trails
