@@ -1,5 +1,5 @@
 -- What every push keeps is kept while the neighbours of a cell are looked at; what every step keeps is kept by the whole search. Assumes nothing.
-use mathlib.Core.Path.{_≡_, refl}
+use mathlib.Core.Path.{_≡_}
 use mathlib.Core.Bool.{true, false, _||_, cond}
 use mathlib.Core.List.{List, [], _∷_}
 use mathlib.Core.Option.{Option}
@@ -9,7 +9,7 @@ use lib.ListN.{length}
 use Rattle.refusal.specs.declared.Room.the-variants.{Known, Waiting}
 use Rattle.refusal.specs.declared.Refusal.the-variants.{NoRoom}
 use Rattle.lattice.specs.Tables.{Each}
-use Rattle.search.specs.Search.{Problem, Row, Told, is, refused, State, Flow, going, done, Result, found, none-found, stopped, andThen, find, isClosed, isKnown, gOf, plus, less, pushed, push, lower, tried, relax, relaxAll, around, step, run}
+use Rattle.search.specs.Search.{Problem, Row, Told, is, refused, State, Flow, going, done, found, none-found, stopped, andThen, find, isClosed, isKnown, gOf, plus, less, pushed, push, lower, tried, relax, relaxAll, step, run}
 use Rattle.search.specs.Cases.{on-test, neither}
 
 -- the flow is at a state where this holds, or it ended in a refusal, or with such a route

@@ -5,3 +5,6 @@ pub mod KnownLaws
 pub mod WaitingLaws
 mod Kept
 mod Trails
+mod Besides
+mod Judged
+pub mod Accepted

@@ -1,7 +1,7 @@
 -- Why a route that is found leads to the goal at the cost that is told: of each known cell the cells before it are closed, go back to the start, and its g is the sum on the way.
 -- A closed cell is never put again, so nothing on such a trail changes. Over any problem. Assumes nothing.
-use mathlib.Core.Path.{_≡_, refl, sym, _∙_, ap, subst}
-use mathlib.Core.Bool.{Bool, true, false, cond}
+use mathlib.Core.Path.{_≡_, refl, sym, _∙_, subst}
+use mathlib.Core.Bool.{true, false, cond}
 use mathlib.Core.Logic.{_⊎_, inl, inr}
 use mathlib.Core.List.{List, [], _∷_}
 use Prim.Native.Nat.{ℕ, zero, suc, _+_}
@@ -10,11 +10,11 @@ use lib.Dec.{eqb, ltb}
 use borrow.Author.Tests.{eqb-true, eq-eqb, ne-eqb}
 use Rattle.refusal.specs.declared.Refusal.the-variants.{SearchLimitExceeded}
 use Rattle.lattice.specs.Tables.{Each}
-use Rattle.search.specs.Search.{Problem, Told, is, refused, Row, Entry, State, state, Flow, going, done, found, stopped, row, find, put, close, isClosed, isKnown, gOf, beforeOf, plus, traced, pushed, relaxAll, around, arrived, entered, popped, next, step, run, first, begin, Ends}
+use Rattle.search.specs.Search.{Problem, Told, is, refused, Row, Entry, State, state, Flow, going, done, found, stopped, find, put, close, isClosed, isKnown, gOf, beforeOf, plus, traced, pushed, relaxAll, around, arrived, entered, popped, next, step, run, begin}
 use Rattle.search.specs.Cases.{on-test, same-or-not, contrary}
 use Rattle.search.specs.KnownLaws.{find-put, find-put-other, known-put, g-close, before-close, known-close, closed-close, closed-now, closed-known, closed-apart}
 use Rattle.search.specs.WaitingLaws.{each-insert, each-follows}
-use Rattle.search.specs.Kept.{Holding, Unfound, holding-follows, Lowered, relaxAll-keeps, run-keeps}
+use Rattle.search.specs.Kept.{Holding, holding-follows, Lowered, relaxAll-keeps, run-keeps}
 
 module _ (P : Problem) (Beside : ℕ → ℕ → Type 0) where
   -- ---- what a route is
