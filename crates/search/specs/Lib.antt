@@ -8,3 +8,5 @@ mod Trails
 mod Besides
 mod Judged
 pub mod Accepted
+mod Counted
+pub mod Ending
