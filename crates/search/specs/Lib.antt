@@ -10,3 +10,5 @@ mod Judged
 pub mod Accepted
 mod Counted
 pub mod Ending
+mod LargerRooms
+pub mod Rooms
