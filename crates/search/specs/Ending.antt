@@ -1,23 +1,19 @@
 -- The search ends, and with one result. Each pop takes an entry away, and a pop that adds entries closes a known cell: so what is counted by `left` falls. Over any problem. Assumes nothing.
 use mathlib.Core.Path.{_≡_, refl, sym, _∙_, ap, subst}
-use mathlib.Core.Bool.{true, false, cond}
+use mathlib.Core.Bool.{true, false}
 use mathlib.Core.List.{List, [], _∷_}
 use Prim.Native.Nat.{ℕ, zero, suc, _+_, _-_, _*_, _≤_, _<_}
 use native.Mathlib.Nat.{suc-mul}
 use native.Mathlib.Numerals.{add-one}
 use native.Mathlib.Omega.{arith}
-use lib.Dec.{eqb, ltb}
 use lib.ListN.{length}
 use borrow.Author.Tests.{ltb-true, eq-eqb}
-use Rattle.refusal.specs.declared.Refusal.the-variants.{SearchLimitExceeded}
 use Rattle.lattice.specs.Tables.{Each}
-use Rattle.search.specs.Search.{Problem, Told, is, refused, Row, Entry, State, state, Result, none-found, Flow, going, done, stopped, find, put, close, isClosed, isKnown, gOf, plus, pushed, relaxAll, around, arrived, entered, popped, next, step, run, first, begin, Ends}
+use Rattle.search.specs.Search.{Problem, Told, is, refused, Entry, State, Result, none-found, Flow, going, done, find, close, isClosed, isKnown, gOf, plus, pushed, relaxAll, arrived, popped, next, step, run, first, begin, Ends}
 use Rattle.search.specs.Plan.{resultOf, popsFor}
-use Rattle.search.specs.Cases.{on-test}
-use Rattle.search.specs.KnownLaws.{find-put, known-put, known-close}
-use Rattle.search.specs.WaitingLaws.{each-insert, length-insert, each-follows}
+use Rattle.search.specs.WaitingLaws.{length-insert, KnownCell, waits-put, waits-close}
 use Rattle.search.specs.Counted.{length-put, length-close, closedIn, closed-at-most, closed-put, closed-close}
-use Rattle.search.specs.Kept.{Holding, holding-follows, Lowered, relaxAll-keeps}
+use Rattle.search.specs.Kept.{Holding, holding-follows, Lowered, HasRoom, relaxAll-keeps, closing, popped-keeps}
 
 -- ---- one result
 
@@ -49,30 +45,25 @@ module _ (P : Problem) where
 -- ---- rooms are kept
 
 module _ (P : Problem) where
-  abbrev Known : List Row → Entry → Type 0
-  Known k e = isKnown (find (e .cell) k) ≡ true
-
   record Roomy (s : State) : Type 0 where
     fits : length (s .known) ≤ P .knownRoom
     few : length (s .waiting) ≤ P .waitingRoom
-    waits : Each (Known (s .known)) (s .waiting)
+    waits : Each (KnownCell (s .known)) (s .waiting)
 
   -- while neighbours are looked at, the same cells are closed
   record Looking (closed : ℕ) (s : State) : Type 0 where
     roomy : Roomy s
     same : closedIn (s .known) ≡ closed
 
-  push-looking : (closed c g n h : ℕ) (s : State) → Unit {0} → Looking closed s → Lowered P n (plus g (P .cost c n)) s → Looking closed (pushed P c n (plus g (P .cost c n)) h s)
-  push-looking closed c g n h s any a l =
+  push-looking : (closed c g n h : ℕ) (s : State) → Unit {0} → Looking closed s → Lowered P n (plus g (P .cost c n)) s → HasRoom P n s → Looking closed (pushed P c n (plus g (P .cost c n)) h s)
+  push-looking closed c g n h s any a l room =
       let t = plus g (P .cost c n) in
       let k = s .known in
-      let e : Entry = record { f = plus t h; cell = n; g = t } in
       record {
         roomy = record {
-          fits = length-put n t c k (P .knownRoom) (a .roomy .fits) (l .known-room);
-          few = omega (arith, length-insert e (s .waiting), ltb-true (length (s .waiting)) (P .waitingRoom) (l .waiting-room));
-          waits = each-insert (Known (put n t c k)) e (s .waiting)
-              (each-follows (Known k) (Known (put n t c k)) (λ (d : Entry) i. known-put (d .cell) n t c k i) (s .waiting) (a .roomy .waits)) (rw find-put);
+          fits = length-put n t c k (P .knownRoom) (a .roomy .fits) (room .known-room);
+          few = omega (arith, length-insert (record { f = plus t h; cell = n; g = t }) (s .waiting), ltb-true (length (s .waiting)) (P .waitingRoom) (room .waiting-room));
+          waits = waits-put n t c (plus t h) k (s .waiting) (a .roomy .waits);
         };
         same = closed-put n t c k (l .not-closed) ∙ a .same;
       }
@@ -101,51 +92,49 @@ module _ (P : Problem) where
   Down m = Holding (Less m) Any
 
   -- to close one more is worth more than to fill the room
-  closing : (closed few many : ℕ) → closed < P .knownRoom → few ≤ P .waitingRoom → leftAfter (suc closed) few < leftAfter closed many
-  closing closed few many h l =
+  one-closed : (closed few many : ℕ) → closed < P .knownRoom → few ≤ P .waitingRoom → leftAfter (suc closed) few < leftAfter closed many
+  one-closed closed few many h l =
       let one : P .knownRoom - closed ≡ suc (P .knownRoom - suc closed) = omega arith in
       let more : (P .knownRoom - closed) * (P .waitingRoom + 1) ≡ (P .knownRoom - suc closed) * (P .waitingRoom + 1) + (P .waitingRoom + 1) =
       ap (λ (n : ℕ). n * (P .waitingRoom + 1)) one ∙ suc-mul (P .knownRoom - suc closed) (P .waitingRoom + 1) in
       omega (arith, more)
 
-  module _ (s : State) (w : Roomy s) (c : ℕ) (rest : List Entry) (known : isKnown (find c (s .known)) ≡ true) (waits : Each (Known (s .known)) rest) (taken : length rest < length (s .waiting)) where
-    abbrev after : State
-    after = state (close c (s .known)) rest (s .count + 1)
+  module _ (s : State) (w : Roomy s) (c : ℕ) (rest : List Entry) (known : isKnown (find c (s .known)) ≡ true) (waits : Each (KnownCell (s .known)) rest) (taken : length rest < length (s .waiting)) where
+    closing-looking : isClosed (find c (s .known)) ≡ false → Looking (suc (closedIn (s .known))) (closing c rest s)
+    closing-looking o =
+        record {
+          roomy = record { fits = rw (length-close c (s .known)) (w .fits); few = omega (arith, taken, w .few); waits = waits-close c (s .known) rest waits };
+          same = closed-close c (s .known) known o;
+        }
 
-    around-down : isClosed (find c (s .known)) ≡ false → (g : ℕ) (ns : Told (List ℕ)) → Down (left s) (around P c g after ns)
-    around-down o g (refused r) = tt
-    around-down o g (is ns) =
+    looking-less : closedIn (s .known) < P .knownRoom → (t : State) → Looking (suc (closedIn (s .known))) t → Less (left s) t
+    looking-less room t a =
+        record {
+          roomy = a .roomy;
+          fewer = subst (λ (n : ℕ). leftAfter n (length (t .waiting)) < left s) (sym (a .same)) (one-closed (closedIn (s .known)) (length (t .waiting)) (length (s .waiting)) room (a .roomy .few));
+        }
+
+    looking-down : isClosed (find c (s .known)) ≡ false → (g : ℕ) (ns : List ℕ) → Down (left s) (relaxAll P c g ns (closing c rest s))
+    looking-down o g ns =
         let closed = closedIn (s .known) in
-        let k = close c (s .known) in
-        let one : closedIn k ≡ suc closed = closed-close c (s .known) known o in
-        let fits : length k ≤ P .knownRoom = rw (length-close c (s .known)) (w .fits) in
-        let room : closed < P .knownRoom = omega (arith, one, closed-at-most k, fits) in
-        let roomy : Roomy after = record { fits = fits; few = omega (arith, taken, w .few); waits = each-follows (Known (s .known)) (Known k) (λ (d : Entry) i. known-close (d .cell) c (s .known) ∙ i) rest waits } in
-        holding-follows (Looking (suc closed)) (Less (left s)) Any
-        (λ (t : State) (a : Looking (suc closed) t). record { roomy = a .roomy; fewer = subst (λ (n : ℕ). leftAfter n (length (t .waiting)) < left s) (sym (a .same)) (closing closed (length (t .waiting)) (length (s .waiting)) room (a .roomy .few)) })
-        (relaxAll P c g ns after)
-        (relaxAll-keeps P c g (λ (n : ℕ). Unit {0}) (Looking (suc closed)) (push-looking (suc closed) c g) ns after (each-any ns) (record { roomy = roomy; same = one }))
-
-    entered-down : isClosed (find c (s .known)) ≡ false → (g : ℕ) → Down (left s) (entered P c g after)
-    unfolding entered arrived
-    entered-down o g =
-        on-test (Down (left s)) (ltb (P .limit) (s .count + 1)) (stopped (SearchLimitExceeded (record { expansions = s .count + 1; limit = P .limit }))) (cond (eqb c (P .goal)) (done (arrived P after)) (around P c g after (P .near c)))
-        (λ e. tt)
-        (λ e. on-test (Down (left s)) (eqb c (P .goal)) (done (arrived P after)) (around P c g after (P .near c)) (λ q. tt) (λ q. around-down o g (P .near c)))
+        let a = closing-looking o in
+        let room : closed < P .knownRoom = omega (arith, a .same, closed-at-most (close c (s .known)), a .roomy .fits) in
+        holding-follows (Looking (suc closed)) (Less (left s)) Any (looking-less room) (relaxAll P c g ns (closing c rest s))
+        (relaxAll-keeps P c g (λ (n : ℕ). Unit {0}) (Looking (suc closed)) (push-looking (suc closed) c g) ns (closing c rest s) (each-any ns) a)
 
     popped-down : Down (left s) (popped P c rest s)
-    unfolding popped
+    unfolding arrived
     popped-down =
-        let k = s .known in
-        on-test (Down (left s)) (isClosed (find c k)) (going (state k rest (s .count))) (entered P c (gOf (find c k)) after)
+        popped-keeps P (Less (left s)) Any c rest s
         (λ h. record { roomy = record { fits = w .fits; few = omega (arith, taken, w .few); waits = waits }; fewer = omega (arith, taken) })
-        (λ h. entered-down h (gOf (find c k)))
+        (λ h e. tt)
+        (λ h ns e. looking-down h (gOf (find c (s .known))) ns)
 
   step-down : (s : State) → Roomy s → Down (left s) (step P s)
   unfolding step
   step-down s w = go (s .waiting) (w .waits) (omega arith)
     where
-      go : (l : List Entry) → Each (Known (s .known)) l → length l ≤ length (s .waiting) → Down (left s) (next P l s)
+      go : (l : List Entry) → Each (KnownCell (s .known)) l → length l ≤ length (s .waiting) → Down (left s) (next P l s)
       go [] waits h = tt
       go (e ∷ rest) waits h = popped-down s w (e .cell) rest (waits .0) (waits .1) (omega (arith, h))
 

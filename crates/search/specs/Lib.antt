@@ -12,3 +12,5 @@ mod Counted
 pub mod Ending
 mod LargerRooms
 pub mod Rooms
+pub mod Midway
+pub mod Shortages
