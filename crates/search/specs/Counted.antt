@@ -17,7 +17,7 @@ unfolding find put
 length-put-known c g b [] h = contrary h refl
 length-put-known c g b (e ∷ es) h = whether (eqb c (e .cell)) (λ q. rw q) (λ q. rw q (ap suc (length-put-known c g b es (rw q at h))))
 
-length-put-new : (c g b : ℕ) (k : List Row) → isKnown (find c k) ≡ false → length (put c g b k) ≡ suc (length k)
+pub length-put-new : (c g b : ℕ) (k : List Row) → isKnown (find c k) ≡ false → length (put c g b k) ≡ suc (length k)
 unfolding find put
 length-put-new c g b [] h = refl
 length-put-new c g b (e ∷ es) h = whether (eqb c (e .cell)) (λ q. contrary refl (rw q at h)) (λ q. rw q (ap suc (length-put-new c g b es (rw q at h))))

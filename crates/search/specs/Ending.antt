@@ -45,17 +45,18 @@ module _ (P : Problem) where
 -- ---- rooms are kept
 
 module _ (P : Problem) where
-  record Roomy (s : State) : Type 0 where
-    fits : length (s .known) ≤ P .knownRoom
-    few : length (s .waiting) ≤ P .waitingRoom
-    waits : Each (KnownCell (s .known)) (s .waiting)
+  -- no more cells are known and no more entries wait than there is room for, and the cells that wait are known
+  pub record Roomy (s : State) : Type 0 where
+    pub fits : length (s .known) ≤ P .knownRoom
+    pub few : length (s .waiting) ≤ P .waitingRoom
+    pub waits : Each (KnownCell (s .known)) (s .waiting)
 
   -- while neighbours are looked at, the same cells are closed
-  record Looking (closed : ℕ) (s : State) : Type 0 where
-    roomy : Roomy s
-    same : closedIn (s .known) ≡ closed
+  pub record Looking (closed : ℕ) (s : State) : Type 0 where
+    pub roomy : Roomy s
+    pub same : closedIn (s .known) ≡ closed
 
-  push-looking : (closed c g n h : ℕ) (s : State) → Unit {0} → Looking closed s → Lowered P n (plus g (P .cost c n)) s → HasRoom P n s → Looking closed (pushed P c n (plus g (P .cost c n)) h s)
+  pub push-looking : (closed c g n h : ℕ) (s : State) → Unit {0} → Looking closed s → Lowered P n (plus g (P .cost c n)) s → HasRoom P n s → Looking closed (pushed P c n (plus g (P .cost c n)) h s)
   push-looking closed c g n h s any a l room =
       let t = plus g (P .cost c n) in
       let k = s .known in
@@ -75,20 +76,20 @@ module _ (P : Problem) where
   -- ---- what is left falls
 
   -- a whole room of entries for each cell that can still be closed, and the entries that wait
-  abbrev leftAfter : ℕ → ℕ → ℕ
+  abbrev pub leftAfter : ℕ → ℕ → ℕ
   leftAfter closed waiting = (P .knownRoom - closed) * (P .waitingRoom + 1) + waiting
 
-  abbrev left : State → ℕ
+  abbrev pub left : State → ℕ
   left s = leftAfter (closedIn (s .known)) (length (s .waiting))
 
-  record Less (m : ℕ) (s : State) : Type 0 where
-    roomy : Roomy s
-    fewer : left s < m
+  pub record Less (m : ℕ) (s : State) : Type 0 where
+    pub roomy : Roomy s
+    pub fewer : left s < m
 
-  abbrev Any : List ℕ → ℕ → ℕ → Type 0
+  abbrev pub Any : List ℕ → ℕ → ℕ → Type 0
   Any cells cost expansions = Unit {0}
 
-  abbrev Down : ℕ → Flow → Type 0
+  abbrev pub Down : ℕ → Flow → Type 0
   Down m = Holding (Less m) Any
 
   -- to close one more is worth more than to fill the room
@@ -100,7 +101,7 @@ module _ (P : Problem) where
       omega (arith, more)
 
   module _ (s : State) (w : Roomy s) (c : ℕ) (rest : List Entry) (known : isKnown (find c (s .known)) ≡ true) (waits : Each (KnownCell (s .known)) rest) (taken : length rest < length (s .waiting)) where
-    closing-looking : isClosed (find c (s .known)) ≡ false → Looking (suc (closedIn (s .known))) (closing c rest s)
+    pub closing-looking : isClosed (find c (s .known)) ≡ false → Looking (suc (closedIn (s .known))) (closing c rest s)
     closing-looking o =
         record {
           roomy = record { fits = rw (length-close c (s .known)) (w .fits); few = omega (arith, taken, w .few); waits = waits-close c (s .known) rest waits };
@@ -130,7 +131,7 @@ module _ (P : Problem) where
         (λ h e. tt)
         (λ h ns e. looking-down h (gOf (find c (s .known))) ns)
 
-  step-down : (s : State) → Roomy s → Down (left s) (step P s)
+  pub step-down : (s : State) → Roomy s → Down (left s) (step P s)
   unfolding step
   step-down s w = go (s .waiting) (w .waits) (omega arith)
     where
@@ -160,11 +161,15 @@ module _ (P : Problem) where
         ap (λ (n : ℕ). n * (P .waitingRoom + 1)) (add-one (P .knownRoom)) ∙ suc-mul (P .knownRoom) (P .waitingRoom + 1) in
         omega (arith, none, one)
 
+    pub first-roomy : (h : ℕ) → Roomy (first P h)
+    unfolding find
+    first-roomy h = record { fits = known-room; few = waiting-room; waits = (rw (eq-eqb (P .start) (P .start) refl), tt) }
+
     begin-ends : (h : Told ℕ) → Done (run P (popsFor (P .knownRoom) (P .waitingRoom)) (begin P h))
-    unfolding find closedIn
+    unfolding closedIn
     begin-ends (refused r) = (none-found r, run-done P (popsFor (P .knownRoom) (P .waitingRoom)) (none-found r))
     begin-ends (is h) =
-        run-ends (popsFor (P .knownRoom) (P .waitingRoom)) (first P h) (record { fits = known-room; few = waiting-room; waits = (rw (eq-eqb (P .start) (P .start) refl), tt) })
+        run-ends (popsFor (P .knownRoom) (P .waitingRoom)) (first P h) (first-roomy h)
         enough
 
     -- what the definition takes for its result

@@ -43,7 +43,7 @@ pub record HasRoom (P : Problem) (n : ℕ) (s : State) : Type 0 where
 
 module _ (P : Problem) (c g : ℕ) (Near : ℕ → Type 0) (Holds : State → Type 0)
     (pushes : (n h : ℕ) (s : State) → Near n → Holds s → Lowered P n (plus g (P .cost c n)) s → HasRoom P n s → Holds (pushed P c n (plus g (P .cost c n)) h s)) where
-  abbrev Keeps : Flow → Type 0
+  abbrev pub Keeps : Flow → Type 0
   Keeps = Holding Holds Unfound
 
   module _ (n : ℕ) (s : State) (near : Near n) (h : Holds s) where
@@ -61,7 +61,7 @@ module _ (P : Problem) (c g : ℕ) (Near : ℕ → Type 0) (Holds : State → Ty
         (λ e. pushes n a s near h l (record { known-room = room; waiting-room = e }))
         (λ e. tt)
 
-    relax-keeps : Keeps (relax P c g n s)
+    pub relax-keeps : Keeps (relax P c g n s)
     unfolding relax tried lower
     relax-keeps =
         on-test Keeps (isClosed k || P .shut n) (going s) (cond (less t (gOf k)) (lower P c n t s k) (going s)) (λ e. h)

@@ -36,7 +36,7 @@ pub data Short : Flow → Type 0 where
   short-waiting : Short (stopped (NoRoom Waiting))
 
 -- the same, if it is not that
-abbrev Alike : Flow → Flow → Type 0
+abbrev pub Alike : Flow → Flow → Type 0
 Alike f h = (f ≡ h) ⊎ Short f
 
 then-alike : {f h : Flow} {next later : State → Flow} → Alike f h → ((s : State) → Alike (next s) (later s)) → Alike (andThen f next) (andThen h later)
@@ -54,7 +54,7 @@ by-test true a b = a
 by-test false a b = b
 
 module _ (P : Problem) (known waiting : ℕ) (more-known : P .knownRoom ≤ known) (more-waiting : P .waitingRoom ≤ waiting) where
-  abbrev L : Problem
+  abbrev pub L : Problem
   L = withRooms known waiting P
 
   -- where there is room, there is room in the larger one
@@ -81,7 +81,7 @@ module _ (P : Problem) (known waiting : ℕ) (more-known : P .knownRoom ≤ know
       either true e = refl
       either false e = room-kept (length (s .known)) (P .knownRoom) known more-known e
 
-  relax-alike : (c g n : ℕ) (s : State) → Alike (relax P c g n s) (relax L c g n s)
+  pub relax-alike : (c g n : ℕ) (s : State) → Alike (relax P c g n s) (relax L c g n s)
   unfolding relax tried
   relax-alike c g n s =
       let k = find n (s .known) in
@@ -108,7 +108,7 @@ module _ (P : Problem) (known waiting : ℕ) (more-known : P .knownRoom ≤ know
       let k = find (e .cell) (s .known) in
       by-test (isClosed k) (inl refl) (entered-alike (e .cell) (gOf k) (state (close (e .cell) (s .known)) rest (s .count + 1)))
 
-  step-alike : (s : State) → Alike (step P s) (step L s)
+  pub step-alike : (s : State) → Alike (step P s) (step L s)
   unfolding step
   step-alike s = next-alike (s .waiting) s
 

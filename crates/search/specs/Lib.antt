@@ -14,3 +14,4 @@ mod LargerRooms
 pub mod Rooms
 pub mod Midway
 pub mod Shortages
+pub mod OneMore

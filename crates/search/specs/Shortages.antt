@@ -1,7 +1,7 @@
 -- Where a search stops for want of room: in the midst of a pop, at a neighbour whose g falls, in a state that fills the room. Over any problem whose own refusals are about no room.
 -- Assumes nothing.
-use mathlib.Core.Path.{_≡_, refl, sym, _∙_, ap, subst}
-use mathlib.Core.Bool.{Bool, true, false, _||_, cond}
+use mathlib.Core.Path.{_≡_, refl, _∙_, subst}
+use mathlib.Core.Bool.{true, false, _||_}
 use mathlib.Core.List.{List, [], _∷_}
 use mathlib.Core.Option.{Option}
 use Prim.Native.Nat.{ℕ, zero, suc, _+_, _≤_}
@@ -13,7 +13,7 @@ use Rattle.refusal.specs.declared.Room.{Room}
 use Rattle.refusal.specs.declared.Room.the-variants.{Known, Waiting}
 use Rattle.refusal.specs.declared.Refusal.{Refusal}
 use Rattle.refusal.specs.declared.Refusal.the-variants.{SearchLimitExceeded, NoRoom}
-use Rattle.search.specs.Search.{Problem, Told, is, refused, Row, Entry, State, state, Result, found, none-found, Flow, going, done, stopped, andThen, find, isClosed, isKnown, gOf, plus, less, pushed, push, lower, tried, relax, relaxAll, around, arrived, entered, popped, next, step, run, first, begin, Ends}
+use Rattle.search.specs.Search.{Problem, Told, is, refused, Row, Entry, State, none-found, Flow, going, done, stopped, andThen, find, isClosed, isKnown, gOf, plus, less, push, lower, tried, relax, relaxAll, around, arrived, entered, popped, next, step, run, first, begin, Ends}
 use Rattle.search.specs.Cases.{whether, neither}
 use Rattle.search.specs.Kept.{Lowered, closing}
 use Rattle.search.specs.Midway.{Reached, at-first, popped-on, Midway, opened, looked-on}
