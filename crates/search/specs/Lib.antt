@@ -15,3 +15,4 @@ pub mod Rooms
 pub mod Midway
 pub mod Shortages
 pub mod OneMore
+mod Refusals
