@@ -13,7 +13,8 @@ use Rattle.search.specs.Search.{Problem, Told, is, refused, Entry, State
 use Rattle.search.specs.Plan.{resultOf, popsFor}
 use Rattle.search.specs.WaitingLaws.{length-insert, KnownCell, waits-put, waits-close}
 use Rattle.search.specs.Counted.{length-put, length-close, closedIn, closed-at-most, closed-put, closed-close}
-use Rattle.search.specs.Kept.{Holding, holding-follows, Lowered, HasRoom, relaxAll-keeps, closing, popped-keeps}
+use Rattle.search.specs.Midway.{closing}
+use Rattle.search.specs.Kept.{Holding, holding-follows, Lowered, HasRoom, relaxAll-keeps, popped-keeps}
 
 -- ---- one result
 

@@ -3,14 +3,15 @@ use mathlib.Core.Path.{_≡_, refl}
 use mathlib.Core.Bool.{true, false, _||_, cond}
 use mathlib.Core.List.{List, [], _∷_}
 use mathlib.Core.Option.{Option}
-use Prim.Native.Nat.{ℕ, zero, suc, _+_}
+use Prim.Native.Nat.{ℕ, zero, suc}
 use lib.Dec.{eqb, ltb}
 use borrow.Author.Tests.{eqb-true}
 use lib.ListN.{length}
 use Rattle.refusal.specs.declared.Room.the-variants.{Known, Waiting}
 use Rattle.refusal.specs.declared.Refusal.the-variants.{SearchLimitExceeded, NoRoom}
 use Rattle.lattice.specs.Tables.{Each}
-use Rattle.search.specs.Search.{Entry, state, close, around, arrived, entered, popped, Problem, Row, Told, is, refused, State, Flow, going, done, found, none-found, stopped, andThen, find, isClosed, isKnown, gOf, plus, less, pushed, push, lower, tried, relax, relaxAll, step, run}
+use Rattle.search.specs.Search.{Entry, state, around, arrived, entered, popped, Problem, Row, Told, is, refused, State, Flow, going, done, found, none-found, stopped, andThen, find, isClosed, isKnown, gOf, plus, less, pushed, push, lower, tried, relax, relaxAll, step, run}
+use Rattle.search.specs.Midway.{closing}
 use Rattle.search.specs.Cases.{on-test, neither}
 
 -- the flow is at a state where this holds, or it ended in a refusal, or with such a route
@@ -82,10 +83,6 @@ module _ (P : Problem) (c g : ℕ) (Near : ℕ → Type 0) (Holds : State → Ty
   relaxAll-keeps (n ∷ ns) s near h = then-keeps (relax P c g n s) (relaxAll P c g ns) (relax-keeps n s (near .0) h) (λ later i. relaxAll-keeps ns later (near .1) i)
 
 -- ---- one pop
-
--- the cell c is closed, one more
-abbrev pub closing : ℕ → List Entry → State → State
-closing c rest s = state (close c (s .known)) rest (s .count + 1)
 
 module _ (P : Problem) (Holds : State → Type 0) (Right : List ℕ → ℕ → ℕ → Type 0) where
   abbrev Keep : Flow → Type 0

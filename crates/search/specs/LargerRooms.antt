@@ -4,14 +4,15 @@ use mathlib.Core.Logic.{_⊎_, inl, inr}
 use mathlib.Core.Bool.{Bool, true, false, _||_, cond}
 use mathlib.Core.List.{List, [], _∷_}
 use mathlib.Core.Option.{Option}
-use Prim.Native.Nat.{ℕ, zero, suc, _+_, _≤_}
+use Prim.Native.Nat.{ℕ, zero, suc, _≤_}
 use native.Mathlib.Omega.{arith}
 use lib.Dec.{eqb, ltb}
 use lib.ListN.{length}
 use borrow.Author.Tests.{ltb-true, lt-ltb}
 use Rattle.refusal.specs.declared.Room.the-variants.{Known, Waiting}
 use Rattle.refusal.specs.declared.Refusal.the-variants.{NoRoom}
-use Rattle.search.specs.Search.{Problem, Told, is, refused, Row, Entry, State, state, Result, none-found, Flow, going, done, stopped, andThen, find, close, isClosed, isKnown, gOf, plus, less, pushed, push, lower, tried, relax, relaxAll, around, arrived, entered, popped, next, step, run, begin, Ends}
+use Rattle.search.specs.Search.{Problem, Told, is, refused, Row, Entry, State, Result, none-found, Flow, going, done, stopped, andThen, find, isClosed, isKnown, gOf, plus, less, pushed, push, lower, tried, relax, relaxAll, around, arrived, entered, popped, next, step, run, begin, Ends}
+use Rattle.search.specs.Midway.{closing}
 use Rattle.search.specs.Cases.{on-test}
 
 -- the same problem with other rooms
@@ -53,13 +54,18 @@ by-test : (t : Bool) {f g h i : Flow} → Alike f h → Alike g i → Alike (con
 by-test true a b = a
 by-test false a b = b
 
+-- where there is room, there is room in the larger one
+room-kept : (n room larger : ℕ) → room ≤ larger → ltb n room ≡ true → ltb n larger ≡ true
+room-kept n room larger h e = lt-ltb n larger (omega (arith, ltb-true n room e))
+
+-- a cell that is known needs none
+pub fits-larger : (known : Bool) (n room larger : ℕ) → room ≤ larger → (known || ltb n room) ≡ true → (known || ltb n larger) ≡ true
+fits-larger true n room larger h e = refl
+fits-larger false n room larger h e = room-kept n room larger h e
+
 module _ (P : Problem) (known waiting : ℕ) (more-known : P .knownRoom ≤ known) (more-waiting : P .waitingRoom ≤ waiting) where
   abbrev pub L : Problem
   L = withRooms known waiting P
-
-  -- where there is room, there is room in the larger one
-  room-kept : (n room larger : ℕ) → room ≤ larger → ltb n room ≡ true → ltb n larger ≡ true
-  room-kept n room larger h e = lt-ltb n larger (omega (arith, ltb-true n room e))
 
   push-alike : (c n t : ℕ) (s : State) (h : Told ℕ) → Alike (push P c n t s h) (push L c n t s h)
   push-alike c n t s (refused r) = inl refl
@@ -74,12 +80,8 @@ module _ (P : Problem) (known waiting : ℕ) (more-known : P .knownRoom ≤ know
   lower-alike c n t s k =
       let m = length (s .known) in
       on-test (λ (f : Flow). Alike f (lower L c n t s k)) (isKnown k || ltb m (P .knownRoom)) (push P c n t s (P .ahead n)) (stopped (NoRoom Known))
-      (λ e. rw (either (isKnown k) e) (push-alike c n t s (P .ahead n)))
+      (λ e. rw (fits-larger (isKnown k) m (P .knownRoom) known more-known e) (push-alike c n t s (P .ahead n)))
       (λ e. inr short-known)
-    where
-      either : (b : Bool) → (b || ltb (length (s .known)) (P .knownRoom)) ≡ true → (b || ltb (length (s .known)) known) ≡ true
-      either true e = refl
-      either false e = room-kept (length (s .known)) (P .knownRoom) known more-known e
 
   pub relax-alike : (c g n : ℕ) (s : State) → Alike (relax P c g n s) (relax L c g n s)
   unfolding relax tried
@@ -106,7 +108,7 @@ module _ (P : Problem) (known waiting : ℕ) (more-known : P .knownRoom ≤ know
   next-alike [] s = inl refl
   next-alike (e ∷ rest) s =
       let k = find (e .cell) (s .known) in
-      by-test (isClosed k) (inl refl) (entered-alike (e .cell) (gOf k) (state (close (e .cell) (s .known)) rest (s .count + 1)))
+      by-test (isClosed k) (inl refl) (entered-alike (e .cell) (gOf k) (closing (e .cell) rest s))
 
   pub step-alike : (s : State) → Alike (step P s) (step L s)
   unfolding step

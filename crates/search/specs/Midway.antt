@@ -1,11 +1,18 @@
--- The places that a search comes to: between two pops, and in the midst of one. Definitions only. Assumes nothing.
+-- The places that a search comes to: between two pops, and in the midst of one; and what it is to need one more there. Definitions only. Assumes nothing.
 use mathlib.Core.Path.{_≡_}
 use mathlib.Core.Bool.{false}
 use mathlib.Core.List.{List, _∷_}
-use Prim.Native.Nat.{ℕ, _+_}
+use Prim.Native.Nat.{ℕ, suc, _+_}
 use lib.Dec.{eqb, ltb}
-use Rattle.search.specs.Search.{Problem, is, Entry, State, going, find, isClosed, gOf, relax, step, first}
-use Rattle.search.specs.Kept.{closing}
+use lib.ListN.{length}
+use Rattle.refusal.specs.declared.Room.{Room}
+use Rattle.refusal.specs.declared.Room.the-variants.{Known, Waiting}
+use Rattle.refusal.specs.declared.Refusal.{Refusal}
+use Rattle.search.specs.Search.{Problem, is, refused, Entry, State, state, going, stopped, find, close, isClosed, isKnown, gOf, relax, step, first}
+
+-- one more cell is closed, and these entries still wait
+abbrev pub closing : ℕ → List Entry → State → State
+closing c rest s = state (close c (s .known)) rest (s .count + 1)
 
 module _ (P : Problem) where
   -- between two pops
@@ -19,3 +26,13 @@ module _ (P : Problem) where
         → ltb (P .limit) (s .count + 1) ≡ false → eqb (e .cell) (P .goal) ≡ false → P .near (e .cell) ≡ is ns
         → Midway (e .cell) (gOf (find (e .cell) (s .known))) (closing (e .cell) rest s) ns
     looked-on : {c g n : ℕ} {ns : List ℕ} {s t : State} → Midway c g s (n ∷ ns) → relax P c g n s ≡ going t → Midway c g t ns
+
+  -- a neighbour is looked at for which rooms of so many would not do: after it one more cell is known, or one more entry waits. A cell's distance is asked for after there is room to know it:
+  -- where that is refused, the cell would have been one more
+  pub data OneMore (known waiting : ℕ) : Room → Type 0 where
+    one-known : {c g n : ℕ} {ns : List ℕ} {s t : State} → Midway c g s (n ∷ ns) → relax P c g n s ≡ going t
+        → length (s .known) ≡ known → length (t .known) ≡ suc known → OneMore known waiting Known
+    one-refused : {c g n : ℕ} {ns : List ℕ} {s : State} {r : Refusal} → Midway c g s (n ∷ ns) → relax P c g n s ≡ stopped r
+        → length (s .known) ≡ known → isKnown (find n (s .known)) ≡ false → P .ahead n ≡ refused r → OneMore known waiting Known
+    one-waiting : {c g n : ℕ} {ns : List ℕ} {s t : State} → Midway c g s (n ∷ ns) → relax P c g n s ≡ going t
+        → length (s .waiting) ≡ waiting → length (t .waiting) ≡ suc waiting → OneMore known waiting Waiting

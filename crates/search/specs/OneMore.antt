@@ -2,34 +2,26 @@
 -- Assumes nothing.
 use mathlib.Core.Path.{_≡_, refl, sym, _∙_, ap, subst}
 use mathlib.Core.Logic.{inl, inr}
-use mathlib.Core.Bool.{Bool, true, false, _||_}
+use mathlib.Core.Bool.{true, false, _||_}
 use mathlib.Core.List.{List, _∷_}
 use Prim.Native.Nat.{ℕ, suc, _≤_, _<_}
 use native.Mathlib.Nat.{le-of-lt}
 use native.Mathlib.Omega.{arith}
 use lib.Dec.{ltb}
 use lib.ListN.{length}
-use borrow.Author.Tests.{ltb-true, lt-ltb}
+use borrow.Author.Tests.{lt-ltb}
 use Rattle.refusal.specs.declared.Room.{Room}
 use Rattle.refusal.specs.declared.Room.the-variants.{Known, Waiting}
-use Rattle.refusal.specs.declared.Refusal.{Refusal}
 use Rattle.refusal.specs.declared.Refusal.the-variants.{NoRoom}
 use Rattle.lattice.specs.Tables.{Each}
-use Rattle.search.specs.Search.{Problem, Told, is, refused, Entry, State, none-found, Flow, going, stopped, find, isClosed, isKnown, plus, pushed, push, lower, tried, relax, step, Ends}
+use Rattle.search.specs.Search.{Problem, Told, is, refused, Entry, State, none-found, Flow, going, find, isClosed, isKnown, plus, pushed, push, lower, tried, relax, step, Ends}
 use Rattle.search.specs.WaitingLaws.{length-insert, KnownCell}
 use Rattle.search.specs.Counted.{closedIn, length-put-new}
-use Rattle.search.specs.Kept.{Holding, Unfound, Lowered, closing, relax-keeps}
+use Rattle.search.specs.Kept.{Holding, Unfound, Lowered, relax-keeps}
 use Rattle.search.specs.Ending.{Roomy, Looking, push-looking, closing-looking, Less, left, Any, step-down, first-roomy}
-use Rattle.search.specs.LargerRooms.{withRooms, short-known, short-waiting, Alike, relax-alike, step-alike}
-use Rattle.search.specs.Midway.{Reached, at-first, popped-on, Midway, opened, looked-on}
-use Rattle.search.specs.Shortages.{Polite, Full, of-known, of-waiting, short-at}
-
--- in the search P, which has room for more, a neighbour is looked at for which a room of so many would not do: going on, one more cell is known, or one more entry waits. The distance of a
--- cell is asked for only when there is room to know it, so it may be refused instead
-pub data OneMore (P : Problem) (known waiting : ℕ) : Room → Type 0 where
-  known-more : {c g n : ℕ} {ns : List ℕ} {s t : State} → Midway P c g s (n ∷ ns) → relax P c g n s ≡ going t → length (s .known) ≡ known → length (t .known) ≡ suc known → OneMore P known waiting Known
-  known-refused : {c g n : ℕ} {ns : List ℕ} {s : State} {r : Refusal} → Midway P c g s (n ∷ ns) → relax P c g n s ≡ stopped r → length (s .known) ≡ known → isKnown (find n (s .known)) ≡ false → P .ahead n ≡ refused r → OneMore P known waiting Known
-  waiting-more : {c g n : ℕ} {ns : List ℕ} {s t : State} → Midway P c g s (n ∷ ns) → relax P c g n s ≡ going t → length (s .waiting) ≡ waiting → length (t .waiting) ≡ suc waiting → OneMore P known waiting Waiting
+use Rattle.search.specs.LargerRooms.{withRooms, fits-larger, short-known, short-waiting, Alike, relax-alike, step-alike}
+use Rattle.search.specs.Midway.{closing, Reached, at-first, popped-on, Midway, opened, looked-on, OneMore, one-known, one-refused, one-waiting}
+use Rattle.search.specs.Shortages.{OtherRefusals, Full, of-known, of-waiting, short-at}
 
 -- ---- no place is overfull
 
@@ -103,23 +95,19 @@ module _ (P : Problem) (known waiting : ℕ) (more-known : P .knownRoom < known)
         fits = rw new (lt-ltb (length (s .known)) known (omega (arith, full, more-known)))
 
         go : (a : Told ℕ) → P .ahead n ≡ a → Past Known
-        go (refused r) a = known-refused m (relaxed fits ∙ ap (push Larger c n t s) a) full new a
-        go (is h) a = known-more m (relaxed fits ∙ ap (push Larger c n t s) a ∙ pushed-on h) full (length-put-new n t c (s .known) new ∙ ap suc full)
+        go (refused r) a = one-refused m (relaxed fits ∙ ap (push Larger c n t s) a) full new a
+        go (is h) a = one-known m (relaxed fits ∙ ap (push Larger c n t s) a ∙ pushed-on h) full (length-put-new n t c (s .known) new ∙ ap suc full)
 
     past-waiting : (isKnown (find n (s .known)) || ltb (length (s .known)) (P .knownRoom)) ≡ true → {h : ℕ} → P .ahead n ≡ is h → length (s .waiting) ≡ P .waitingRoom → Past Waiting
     past-waiting fits {h} a full =
-        waiting-more m (relaxed (either (isKnown (find n (s .known))) fits) ∙ ap (push Larger c n t s) a ∙ pushed-on h) full (length-insert (record { f = plus t h; cell = n; g = t }) (s .waiting) ∙ ap suc full)
-      where
-        either : (b : Bool) → (b || ltb (length (s .known)) (P .knownRoom)) ≡ true → (b || ltb (length (s .known)) known) ≡ true
-        either true e = refl
-        either false e = lt-ltb (length (s .known)) known (omega (arith, ltb-true (length (s .known)) (P .knownRoom) e, more-known))
+        one-waiting m (relaxed (fits-larger (isKnown (find n (s .known))) (length (s .known)) (P .knownRoom) known (le-of-lt more-known) fits) ∙ ap (push Larger c n t s) a ∙ pushed-on h) full (length-insert (record { f = plus t h; cell = n; g = t }) (s .waiting) ∙ ap suc full)
 
     past : {room : Room} → Full P n s room → Past room
     past (of-known new full) = past-known new (omega (arith, full, w .fits))
     past (of-waiting fits a full) = past-waiting fits a (omega (arith, full, w .few))
 
   -- a search that ends for want of a room: the larger one needs one more
-  pub short-one-more : 1 ≤ P .knownRoom → 1 ≤ P .waitingRoom → Polite P → (room : Room) → Ends P (none-found (NoRoom room)) → OneMore (withRooms known waiting P) (P .knownRoom) (P .waitingRoom) room
-  short-one-more some-known some-waiting polite room e =
-      let k = short-at P polite room e in
+  pub short-one-more : 1 ≤ P .knownRoom → 1 ≤ P .waitingRoom → OtherRefusals P → (room : Room) → Ends P (none-found (NoRoom room)) → OneMore (withRooms known waiting P) (P .knownRoom) (P .waitingRoom) room
+  short-one-more some-known some-waiting own room e =
+      let k = short-at P own room e in
       past (k .cell) (k .g) (k .neighbour) (k .others) (k .place) (midway-roomy P some-known some-waiting (k .midway)) (midway-larger P known waiting (le-of-lt more-known) (le-of-lt more-waiting) (k .midway)) (k .lowered) (k .full)

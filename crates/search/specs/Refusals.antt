@@ -20,7 +20,7 @@ use Rattle.layer.specs.Layer.{Row}
 use Rattle.search.specs.Search.{refused}
 use Rattle.search.specs.Plan.{cellOf, nearBy, distanceBits, planOf}
 use Rattle.search.specs.Cases.{whether}
-use Rattle.search.specs.Shortages.{Other, Polite}
+use Rattle.search.specs.Shortages.{Other, OtherRefusals}
 
 overflow-other : Other CoordOverflow
 overflow-other room e = let z : _≡_ {A = ℕ} 0 1 = cc in omega arith
@@ -66,9 +66,9 @@ near-other c r e = by-parity (parityOf (coordOf c)) refl e
     by-parity (parity.Refused q) p f = let same : q ≡ r = cc in as-told (parity-other (coordOf c) q p) same
     by-parity (parity.Is p) q f = by-room (hasNeighborRoom (coordOf c)) f
 
-pub plan-polite : (s e : Cell) (known waiting limit rule : ℕ) (rows : List Row) → Polite (planOf s e known waiting limit rule rows)
+pub plan-refusals : (s e : Cell) (known waiting limit rule : ℕ) (rows : List Row) → OtherRefusals (planOf s e known waiting limit rule rows)
 unfolding planOf
-plan-polite s e known waiting limit rule rows =
+plan-refusals s e known waiting limit rule rows =
     record {
       ahead-other = λ n r f. distance-other (coordOf (cellOf n)) (coordOf e) r f;
       near-other = λ n r f. near-other (cellOf n) r f;

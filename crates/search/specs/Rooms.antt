@@ -1,6 +1,6 @@
 -- "NoRoom is given exactly where the plain search would need one more." A search that ends for another reason ends with the same result in any larger rooms: `same-in-larger-rooms`.
 -- And one that ends with NoRoom names the room of known cells or that of waiting entries, and the search in larger rooms comes to a place where it needs one more than that room holds:
--- `no-room-one-more`, by OneMore.antt. Assumes nothing.
+-- `no-room-one-more`, in the words of Midway.antt. Assumes nothing.
 use mathlib.Core.Path.{_≡_, refl, ap, _∙_}
 use mathlib.Core.Bool.{Bool, true, false, cond}
 use mathlib.Core.List.{List, [], _∷_}
@@ -21,17 +21,18 @@ use Rattle.search.specs.Search.{Result, found, none-found, done}
 use Rattle.search.specs.Plan.{planOf, popsFor, resultBy, searchOf}
 use Rattle.search.specs.Ending.{ends, result-is}
 use Rattle.search.specs.LargerRooms.{ends-alike}
-use Rattle.search.specs.OneMore.{OneMore, short-one-more}
-use Rattle.search.specs.Refusals.{parity-other, plan-polite}
+use Rattle.search.specs.Midway.{OneMore}
+use Rattle.search.specs.OneMore.{short-one-more}
+use Rattle.search.specs.Refusals.{parity-other, plan-refusals}
 
 -- ---- larger rooms
 
 module _ (s e : Cell) (known waiting more-known more-waiting limit rule : ℕ) (rows : List Row)
     (some-known : 1 ≤ known) (some-waiting : 1 ≤ waiting) (known-grows : known ≤ more-known) (waiting-grows : waiting ≤ more-waiting) where
-  abbrev Roomy : Result → Type 0
-  Roomy r = (r ≡ none-found (NoRoom Known) → ⊥) × (r ≡ none-found (NoRoom Waiting) → ⊥)
+  abbrev HadRoom : Result → Type 0
+  HadRoom r = (r ≡ none-found (NoRoom Known) → ⊥) × (r ≡ none-found (NoRoom Waiting) → ⊥)
 
-  result-alike : (p q : ParityAnswer) → Roomy (resultBy p q (planOf s e known waiting limit rule rows))
+  result-alike : (p q : ParityAnswer) → HadRoom (resultBy p q (planOf s e known waiting limit rule rows))
       → resultBy p q (planOf s e more-known more-waiting limit rule rows) ≡ resultBy p q (planOf s e known waiting limit rule rows)
   unfolding planOf
   result-alike (parity.Refused r) q h = refl
@@ -43,7 +44,7 @@ module _ (s e : Cell) (known waiting more-known more-waiting limit rule : ℕ) (
       (ends-alike P more-known more-waiting known-grows waiting-grows r (popsFor known waiting, ends P some-known some-waiting) (h .0) (h .1))
 
   search-alike : (same : Bool) (p q : ParityAnswer)
-      → Roomy (cond same (found (rawOf s ∷ []) 0 0) (resultBy p q (planOf s e known waiting limit rule rows)))
+      → HadRoom (cond same (found (rawOf s ∷ []) 0 0) (resultBy p q (planOf s e known waiting limit rule rows)))
       → cond same (found (rawOf s ∷ []) 0 0) (resultBy p q (planOf s e more-known more-waiting limit rule rows)) ≡ cond same (found (rawOf s ∷ []) 0 0) (resultBy p q (planOf s e known waiting limit rule rows))
   search-alike true p q h = refl
   search-alike false p q h = result-alike p q h
@@ -70,7 +71,7 @@ module _ (s e : Cell) (known waiting more-known more-waiting limit rule : ℕ) (
   result-short (parity.Is p) (parity.Refused r) first second f = absurd (parity-other (coordOf e) r second room (let same : r ≡ NoRoom room = cc in same))
   result-short (parity.Is p) (parity.Is q) first second f =
       let P = planOf s e known waiting limit rule rows in
-      short-one-more P more-known more-waiting known-grows waiting-grows some-known some-waiting (plan-polite s e known waiting limit rule rows) room
+      short-one-more P more-known more-waiting known-grows waiting-grows some-known some-waiting (plan-refusals s e known waiting limit rule rows) room
       (popsFor known waiting, ends P some-known some-waiting ∙ ap done f)
 
   search-short : (same : Bool) → cond same (found (rawOf s ∷ []) 0 0) (resultBy (parityOf (coordOf s)) (parityOf (coordOf e)) (planOf s e known waiting limit rule rows)) ≡ none-found (NoRoom room) → Past

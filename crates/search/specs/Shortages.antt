@@ -1,4 +1,4 @@
--- Where a search stops for want of room: in the midst of a pop, at a neighbour whose g falls, in a state that fills the room. Over any problem whose own refusals are about no room.
+-- Where a search stops for want of room: in the midst of a pop, at a neighbour whose g falls, in a state that fills the room. Over any problem that refuses other things by itself.
 -- Assumes nothing.
 use mathlib.Core.Path.{_≡_, refl, _∙_, subst}
 use mathlib.Core.Bool.{true, false, _||_}
@@ -15,23 +15,25 @@ use Rattle.refusal.specs.declared.Refusal.{Refusal}
 use Rattle.refusal.specs.declared.Refusal.the-variants.{SearchLimitExceeded, NoRoom}
 use Rattle.search.specs.Search.{Problem, Told, is, refused, Row, Entry, State, none-found, Flow, going, done, stopped, andThen, find, isClosed, isKnown, gOf, plus, less, push, lower, tried, relax, relaxAll, around, arrived, entered, popped, next, step, run, first, begin, Ends}
 use Rattle.search.specs.Cases.{whether, neither}
-use Rattle.search.specs.Kept.{Lowered, closing}
-use Rattle.search.specs.Midway.{Reached, at-first, popped-on, Midway, opened, looked-on}
+use Rattle.search.specs.Kept.{Lowered}
+use Rattle.search.specs.Midway.{closing, Reached, at-first, popped-on, Midway, opened, looked-on}
 
--- a refusal about no room
+-- a refusal that is about no room
 abbrev pub Other : Refusal → Type 0
 Other r = (room : Room) → r ≡ NoRoom room → ⊥
 
-pub record Polite (P : Problem) : Type 0 where
+-- what a problem refuses by itself
+pub record OtherRefusals (P : Problem) : Type 0 where
   pub ahead-other : (n : ℕ) (r : Refusal) → P .ahead n ≡ refused r → Other r
   pub near-other : (n : ℕ) (r : Refusal) → P .near n ≡ refused r → Other r
   pub nowhere-other : Other (P .nowhere)
 
--- the room that is full where n is to come in
+-- the room that is full where n is to come in: that of the known cells, if it is a new one, or that of the waiting entries
 pub data Full (P : Problem) (n : ℕ) (s : State) : Room → Type 0 where
   of-known : isKnown (find n (s .known)) ≡ false → P .knownRoom ≤ length (s .known) → Full P n s Known
   of-waiting : {h : ℕ} → (isKnown (find n (s .known)) || ltb (length (s .known)) (P .knownRoom)) ≡ true → P .ahead n ≡ is h → P .waitingRoom ≤ length (s .waiting) → Full P n s Waiting
 
+-- the place, and the neighbour for which there is no room there
 pub record Shortage (P : Problem) (room : Room) : Type 0 where
   pub cell : ℕ
   pub g : ℕ
@@ -42,7 +44,7 @@ pub record Shortage (P : Problem) (room : Room) : Type 0 where
   pub lowered : Lowered P neighbour (plus g (P .cost cell neighbour)) place
   pub full : Full P neighbour place room
 
-module _ (P : Problem) (polite : Polite P) (room : Room) where
+module _ (P : Problem) (own : OtherRefusals P) (room : Room) where
   -- ---- at one neighbour
 
   going-on : {Q : Type 0} {s : State} → going s ≡ stopped (NoRoom room) → Q
@@ -55,11 +57,8 @@ module _ (P : Problem) (polite : Polite P) (room : Room) where
     abbrev k : Option Row
     k = find n (s .known)
 
-    abbrev Found : Type 0
-    Found = Lowered P n t s × Full P n s room
-
     push-short : (isKnown k || ltb (length (s .known)) (P .knownRoom)) ≡ true → (a : Told ℕ) → P .ahead n ≡ a → push P c n t s a ≡ stopped (NoRoom room) → Full P n s room
-    push-short fits (refused r) a e = absurd (polite .ahead-other n r a room (let same : r ≡ NoRoom room = cc in same))
+    push-short fits (refused r) a e = absurd (own .ahead-other n r a room (let same : r ≡ NoRoom room = cc in same))
     push-short fits (is h) a e =
         whether (ltb (length (s .waiting)) (P .waitingRoom)) (λ w. going-on (rw w at e))
         (λ w. ended (rw w at e) (ltb-false (length (s .waiting)) (P .waitingRoom) w))
@@ -76,7 +75,7 @@ module _ (P : Problem) (polite : Polite P) (room : Room) where
         ended : stopped (NoRoom Known) ≡ stopped (NoRoom room) → isKnown k ≡ false → P .knownRoom ≤ length (s .known) → Full P n s room
         ended f o h = let same : Known ≡ room = cc in subst (Full P n s) same (of-known o h)
 
-    relax-short : relax P c g n s ≡ stopped (NoRoom room) → Found
+    relax-short : relax P c g n s ≡ stopped (NoRoom room) → Lowered P n t s × Full P n s room
     unfolding relax tried
     relax-short e =
         whether (isClosed k || P .shut n) (λ h. going-on (rw h at e))
@@ -99,7 +98,7 @@ module _ (P : Problem) (polite : Polite P) (room : Room) where
   module _ (s : State) (reached : Reached P s) (e : Entry) (rest : List Entry) (waits : s .waiting ≡ e ∷ rest) where
     around-short : (a : Told (List ℕ)) → P .near (e .cell) ≡ a → isClosed (find (e .cell) (s .known)) ≡ false → ltb (P .limit) (s .count + 1) ≡ false → eqb (e .cell) (P .goal) ≡ false
         → around P (e .cell) (gOf (find (e .cell) (s .known))) (closing (e .cell) rest s) a ≡ stopped (NoRoom room) → Shortage P room
-    around-short (refused r) a o l q f = absurd (polite .near-other (e .cell) r a room (let same : r ≡ NoRoom room = cc in same))
+    around-short (refused r) a o l q f = absurd (own .near-other (e .cell) r a room (let same : r ≡ NoRoom room = cc in same))
     around-short (is ns) a o l q f = relaxAll-short (e .cell) (gOf (find (e .cell) (s .known))) ns (closing (e .cell) rest s) (opened reached waits o l q a) f
 
     popped-short : popped P (e .cell) rest s ≡ stopped (NoRoom room) → Shortage P room
@@ -121,7 +120,7 @@ module _ (P : Problem) (polite : Polite P) (room : Room) where
   step-short s reached f = go (s .waiting) refl f
     where
       go : (w : List Entry) → s .waiting ≡ w → next P w s ≡ stopped (NoRoom room) → Shortage P room
-      go [] e f = absurd (polite .nowhere-other room (let same : P .nowhere ≡ NoRoom room = cc in same))
+      go [] e f = absurd (own .nowhere-other room (let same : P .nowhere ≡ NoRoom room = cc in same))
       go (e ∷ rest) waits f = popped-short s reached e rest waits f
 
   run-short : (k : ℕ) (s : State) → Reached P s → run P k (going s) ≡ stopped (NoRoom room) → Shortage P room
@@ -145,4 +144,4 @@ module _ (P : Problem) (polite : Polite P) (room : Room) where
     where
       go : (a : Told ℕ) → P .ahead (P .start) ≡ a → run P k (begin P a) ≡ stopped (NoRoom room) → Shortage P room
       go (is h) a e = run-short k (first P h) (at-first a) e
-      go (refused r) a e = absurd (polite .ahead-other (P .start) r a room (refused-told k r e))
+      go (refused r) a e = absurd (own .ahead-other (P .start) r a room (refused-told k r e))

@@ -12,7 +12,8 @@ use Rattle.search.specs.Search.{Problem, Told, is, refused, Row, Entry, 
 use Rattle.search.specs.Cases.{same-or-not, contrary}
 use Rattle.search.specs.KnownLaws.{find-put, find-put-other, g-close, before-close, known-close, closed-close, closed-now, closed-known, closed-apart}
 use Rattle.search.specs.WaitingLaws.{each-follows, KnownCell, waits-put, waits-close}
-use Rattle.search.specs.Kept.{Holding, holding-follows, Lowered, HasRoom, relaxAll-keeps, closing, popped-keeps, run-keeps}
+use Rattle.search.specs.Midway.{closing}
+use Rattle.search.specs.Kept.{Holding, holding-follows, Lowered, HasRoom, relaxAll-keeps, popped-keeps, run-keeps}
 
 module _ (P : Problem) (Beside : ℕ → ℕ → Type 0) where
   -- ---- what a route is
