@@ -1,0 +1,18 @@
+pub mod Search
+pub mod Plan
+pub mod Midway
+pub mod Accepted
+pub mod Ending
+pub mod Rooms
+mod Cases
+pub mod KnownLaws
+pub mod WaitingLaws
+mod Kept
+mod Trails
+mod Besides
+mod Judged
+mod Counted
+mod LargerRooms
+mod Shortages
+mod Refusals
+mod OneMore
