@@ -1,0 +1,7 @@
+mod Cases
+mod Decides
+mod Stored
+mod Least
+mod Holes
+mod Moves
+mod Sorted
