@@ -5,3 +5,4 @@ mod Least
 mod Holes
 mod Moves
 mod Sorted
+mod Answers
