@@ -6,3 +6,4 @@ mod Holes
 mod Moves
 mod Sorted
 mod Answers
+pub mod Points

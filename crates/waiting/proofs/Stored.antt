@@ -1,13 +1,12 @@
 -- An entry that is stored, or copied word by word: its place has its key, and the other places keep theirs. Assumes nothing.
-use mathlib.Core.Path.{_≡_, refl, sym, ap, _∙_, subst, subst₂}
+use mathlib.Core.Path.{_≡_, refl, sym, ap, _∙_, subst}
 use mathlib.Core.Logic.{_≢_}
 use mathlib.Core.List.{List}
-use Prim.Native.Nat.{ℕ, _+_, _-_, _*_, _^_, _≤_, _<_}
+use Prim.Native.Nat.{ℕ, _+_, _*_, _≤_}
 use native.Mathlib.Omega.{arith}
 use lib.ListN.{length}
 use Rattle.words.specs.Word.{little, word, stored, Apart}
 use Rattle.words.specs.Laws.{length-stored, word-stored, word-stored-apart}
-use Rattle.refusal.specs.declared.Cell.{Cell}
 use Rattle.waiting.specs.declared.Entry.{Entry}
 use Rattle.waiting.specs.Heap.{Replaced}
 use Rattle.waiting.specs.Entries.{keyOf, entryAt, keyIn, entryStored, EntryWords}

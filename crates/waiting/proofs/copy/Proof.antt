@@ -58,12 +58,16 @@ same-length c = search needs
 
 returns : tie.Need-returns
 returns c =
-    let args = c .before .before .before .before .before .before .before .before .before .before .before .before .before .before .before .before .before .before .before .before .before .before .before .before .before .args in
-    copied _ _ _ _ _ (args .from) (args .to) _ _ _ _ (omega arith) (record { f-word = omega arith; cell-words = record { high-word = omega arith; low-word = omega arith }; g-word = omega arith })
-    (c .before .before .before .before .before .before .before .before .before .before .before .before .before .before .before .before .before .before .before .before .before .before .read64-little .ensures) (c .before .before .before .before .before .before .before .before .before .before .before .before .before .before .before .before .before .before .before .before .write64-little .ensures)
-    (c .before .before .before .before .before .before .before .before .before .before .before .before .before .before .before .before .read64-little2 .ensures) (c .before .before .before .before .before .before .before .before .before .before .before .before .before .before .write64-little2 .ensures)
-    (c .before .before .before .before .before .before .before .before .before .before .read64-little3 .ensures) (c .before .before .before .before .before .before .before .before .write64-little3 .ensures)
-    (c .before .before .before .before .read64-little4 .ensures) (c .before .before .write64-little4 .ensures)
+    let fourth = c .before .before in
+    let third = fourth .before .before .before .before .before .before in
+    let second = third .before .before .before .before .before .before in
+    let first = second .before .before .before .before .before .before in
+    let args = first .before .before .before .before .before .args in
+    copied _ _ _ _ _ (args .from) (args .to) _ _ _ _ (omega arith) (search needs)
+    (first .before .before .read64-little .ensures) (first .write64-little .ensures)
+    (second .before .before .read64-little2 .ensures) (second .write64-little2 .ensures)
+    (third .before .before .read64-little3 .ensures) (third .write64-little3 .ensures)
+    (fourth .before .before .read64-little4 .ensures) (fourth .write64-little4 .ensures)
 
 pub copy-spec : {M : Type 1} → statement M
 copy-spec =

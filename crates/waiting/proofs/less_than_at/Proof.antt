@@ -30,7 +30,7 @@ returns-2 c =
     let args = c .before .before .before .before .before .args in
     let read = c .before .before .before .read64-little .ensures in
     rw read
-    (f-decides-than (args .heap .now) (λ k. omega (arith, c .before .before .before .before .shared-slice-known .given k)) (args .e) (record { f-word = omega arith; cell-words = record { high-word = omega arith; low-word = omega arith }; g-word = omega arith }) (args .i) (λ q. c .before .if1 .left (q ∙ sym read)))
+    (f-decides-than (args .heap .now) (λ k. omega (arith, c .before .before .before .before .shared-slice-known .given k)) (args .e) (search needs) (args .i) (λ q. c .before .if1 .left (q ∙ sym read)))
 
 pub less-than-at-spec : {M : Type 1} → statement M
 less-than-at-spec =

@@ -1,5 +1,5 @@
 -- The hole that the root leaves goes down, and the last entry rises from there.
-use mathlib.Core.Path.{_≡_, refl}
+use mathlib.Core.Path.{refl}
 use Prim.Native.Nat.{_-_}
 use borrow.Author.Needs.{needs}
 use native.Mathlib.Omega.{arith}
@@ -33,13 +33,15 @@ same-length c = search needs
 
 returns : tie.Need-returns
 returns c =
-    let start = c .before .before .before .before .before .before .before .before .before .before .before .before .before .before in
-    let l = start .args .heap .now in
-    let size = start .args .size in
     let dug = c .before .before .before .before .before .before .dig in
     let risen = c .before .before .rise .ensures in
-    popped l _ size _ (λ k. omega (arith, c .before .before .before .before .before .before .before .before .before .before .before .before .before .slice-known .given k)) (start .pre .0) (c .before .before .before .before .before .before .before .before .before .before .before .entry-at .ensures) (risen .heap)
-    (root-left (keyIn l) (keyIn (dug .last .0)) _ size (dug .result) _ (omega arith) (dug .ensures) risen (key-is l (size - 1) (c .before .before .before .before .before .before .before .before .entry-at2 .ensures)))
+    let last = c .before .before .before .before .before .before .before .before in
+    let first = last .before .before .before in
+    let start = first .before .before .before in
+    let l = start .args .heap .now in
+    let size = start .args .size in
+    popped l _ size _ (λ k. omega (arith, first .before .before .slice-known .given k)) (start .pre .0) (first .entry-at .ensures) (risen .heap)
+    (root-left (keyIn l) (keyIn (dug .last .0)) _ size (dug .result) _ (omega arith) (dug .ensures) risen (key-is l (size - 1) (last .entry-at2 .ensures)))
     (search needs)
 
 same-length-2 : tie.Need-same-length-2

@@ -1,6 +1,5 @@
 -- The hole goes up as long as e is less than its parent.
 use mathlib.Core.Path.{_≡_, refl, sym, _∙_}
-use Prim.Native.Nat.{_-_, _/_}
 use borrow.Author.Tests.{ltb-true, ltb-false}
 use borrow.Author.Needs.{needs}
 use native.Mathlib.Omega.{arith}
@@ -34,9 +33,11 @@ loop-less c = search needs
 loop-again : tie.Need-loop-again Inv-loop μ-loop
 loop-again c =
     let args = c .before .before .before .before .before .before .before .before .before .before .args in
-    let here = c .before .before .before .before .before .before .before .before .loop in
-    let less = ltb-true _ _ (sym (c .before .before .before .before .before .less-than-at .ensures) ∙ c .before .before .before .before .if1 .taken) in
-    (cc, rises (keyIn (args .heap .now)) (keyIn (here .heap)) _ (args .size) (args .start) (here .hole) (keyOf (args .e)) (here .inv .1) (c .before .before .before .before .before .before .before .loop-test .taken) less (c .before .before .copy .ensures))
+    let here = c .before .before .before .before .before .before .before .before .loop in (
+      cc,
+      rises (keyIn (args .heap .now)) (keyIn (here .heap)) _ (args .size) (args .start) (here .hole) (keyOf (args .e)) (here .inv .1) (c .before .before .before .before .before .before .before .loop-test .taken)
+          (ltb-true _ _ (sym (c .before .before .before .before .before .less-than-at .ensures) ∙ c .before .before .before .before .if1 .taken)) (c .before .before .copy .ensures),
+    )
 
 store-requires : tie.Need-store-requires Inv-loop μ-loop
 store-requires c κs = omega (arith, c .before .before .before .before .before .loop .inv .1 .within)

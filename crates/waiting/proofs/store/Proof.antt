@@ -39,7 +39,7 @@ unfolding entryStored
 returns c =
     let args = c .before .before .before .before .before .before .before .before .before .before .before .before .before .before .before .before .before .args in
     let put : c .before .before .write64-little4 .last .0 ≡ entryStored (args .heap .now) (args .i) (args .e) = cc in
-    stored-replaced (args .heap .now) (args .i) (args .e) (omega arith) (record { f-word = omega arith; cell-words = record { high-word = omega arith; low-word = omega arith }; g-word = omega arith }) put
+    stored-replaced (args .heap .now) (args .i) (args .e) (omega arith) (search needs) put
 
 pub store-spec : {M : Type 1} → statement M
 store-spec =
