@@ -8,11 +8,11 @@ use Rattle.words.specs.Word.{Bytes}
 use Rattle.waiting.specs.declared.Entry.{Entry}
 use Rattle.waiting.specs.Heap.{Heap, single, count}
 use Rattle.waiting.specs.Entries.{keyOf, entryAt, keyIn, EntryWords}
-use Rattle.waiting.specs.Sorted.{ascending, sortedKeys}
+use Rattle.waiting.specs.Sorted.{ascendingKeys, sortedKeys}
 use Rattle.waiting.specs.Steps.{Dug, Risen, Pushed, Popped}
 use Rattle.waiting.proofs.Decides.{words-at}
 use Rattle.waiting.proofs.Holes.{count-one-more, root-least}
-use Rattle.waiting.proofs.Sorted.{one-more-ascending, least-ascending}
+use Rattle.waiting.proofs.Counted.{one-more-ascending, least-ascending}
 
 pub pushed : (l after : List ℕ) (n : ℕ) (e : Entry) → Risen (keyIn l) (keyIn after) (n + 1) n (keyOf e) → length after ≡ length l → Pushed l after n e
 unfolding sortedKeys
@@ -49,7 +49,7 @@ module _ (l after : List ℕ) (n : ℕ) (e : Entry) (bytes : Bytes l) (heap : He
         heap = rest;
         keys =
             least-ascending (keyIn l) (keyIn after) n (n - 1) (keyIn l 0) has (λ j within. root-least (keyIn l) n j heap within)
-            ∙ ap (λ (k : ℕ). k ∷ ascending (keyIn after) (n - 1)) (sym (key-is l 0 first));
+            ∙ ap (λ (k : ℕ). k ∷ ascendingKeys (keyIn after) (n - 1)) (sym (key-is l 0 first));
         words = subst EntryWords (sym first) (words-at l bytes 0);
         long = long;
       }

@@ -4,6 +4,6 @@ mod Stored
 mod Least
 mod Holes
 mod Moves
-mod Sorted
+mod Counted
 mod Answers
 pub mod Points

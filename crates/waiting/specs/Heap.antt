@@ -38,6 +38,6 @@ abbrev pub count : (ℕ → ℕ) → ℕ → ℕ → ℕ
 count key zero y = 0
 count key (suc n) y = count key n y + single (key n) y
 
--- a hole that was at `start` is at i: the other keys are still those
+-- the hole went from `start` to i: but for what stands in the hole, each key is there as often as before
 abbrev pub Moved : (ℕ → ℕ) → (ℕ → ℕ) → ℕ → ℕ → ℕ → Type 0
 Moved key after size start i = (y : ℕ) → count after size y + single (key start) y ≡ count key size y + single (after i) y

@@ -3,6 +3,7 @@ use mathlib.Core.Path.{_≡_, refl, sym, ap, _∙_}
 use mathlib.Core.Bool.{Bool, true, false, cond}
 use mathlib.Core.List.{List, [], _∷_}
 use Prim.Native.Nat.{ℕ, zero, suc, _+_, _*_, _/_, _%_, _^_}
+use native.Mathlib.Nat.{div-add-mod'}
 use native.Mathlib.Omega.{arith}
 use lib.Arith.{digits-div, digits-mod}
 use lib.Dec.{leb}
@@ -10,14 +11,14 @@ use lib.ListN.{length}
 use Rattle.waiting.specs.declared.Entry.{Entry}
 use Rattle.waiting.specs.Heap.{Heap}
 use Rattle.waiting.specs.Entries.{keyOf, entryOf, keyIn, EntryWords}
-use Rattle.waiting.specs.Sorted.{insertKey, ascending, sortedKeys}
+use Rattle.waiting.specs.Sorted.{insertKey, ascendingKeys, sortedKeys}
 
 -- where nothing waits there is a heap, whatever the bytes are
 pub empty-heap : (l : List ℕ) → Heap (keyIn l) 0
 empty-heap l = record { order = λ j after within. absurd (omega arith) }
 
 pub empty-keys : (l : List ℕ) → sortedKeys l 0 ≡ []
-unfolding sortedKeys ascending
+unfolding sortedKeys ascendingKeys
 empty-keys l = refl
 
 -- as many keys as entries
@@ -30,10 +31,10 @@ length-insert x (y ∷ ys) = either (leb x y) (length-insert x ys)
     either true later = refl
     either false later = ap suc later
 
-length-ascending : (key : ℕ → ℕ) (n : ℕ) → length (ascending key n) ≡ n
-unfolding ascending
+length-ascending : (key : ℕ → ℕ) (n : ℕ) → length (ascendingKeys key n) ≡ n
+unfolding ascendingKeys
 length-ascending key zero = refl
-length-ascending key (suc n) = length-insert (key n) (ascending key n) ∙ ap suc (length-ascending key n)
+length-ascending key (suc n) = length-insert (key n) (ascendingKeys key n) ∙ ap suc (length-ascending key n)
 
 pub length-sortedKeys : (l : List ℕ) (n : ℕ) → length (sortedKeys l n) ≡ n
 unfolding sortedKeys
@@ -52,6 +53,11 @@ key-words e w =
     let low-back = ap (λ (k : ℕ). k % 2 ^ 64) body-back ∙ digits-mod head (w .cell-words .low-word) in
     let g-back = digits-mod body (w .g-word) in
     λ i. record { f = f-back i; cell = record { high = high-back i; low = low-back i }; g = g-back i }
+
+-- and a key from its entry, whatever number it is
+pub words-key : (k : ℕ) → keyOf (entryOf k) ≡ k
+unfolding keyOf entryOf
+words-key k = rw (div-add-mod', div-add-mod', div-add-mod')
 
 -- so entries with one key are one entry
 pub key-injective : (a b : Entry) → EntryWords a → EntryWords b → keyOf a ≡ keyOf b → a ≡ b

@@ -11,12 +11,12 @@ insertKey x [] = x ∷ []
 insertKey x (y ∷ ys) = let later = insertKey x ys in cond (leb x y) (x ∷ (y ∷ ys)) (y ∷ later)
 
 -- the first n keys, one after the other put in its place
-unfoldable pub ascending : (ℕ → ℕ) → ℕ → List ℕ
+unfoldable pub ascendingKeys : (ℕ → ℕ) → ℕ → List ℕ
 unfolding insertKey
-ascending key zero = []
-ascending key (suc n) = insertKey (key n) (ascending key n)
+ascendingKeys key zero = []
+ascendingKeys key (suc n) = insertKey (key n) (ascendingKeys key n)
 
 -- the keys of the first n entries
 unfoldable pub sortedKeys : List ℕ → ℕ → List ℕ
-unfolding ascending
-sortedKeys l n = ascending (keyIn l) n
+unfolding ascendingKeys
+sortedKeys l n = ascendingKeys (keyIn l) n

@@ -6,7 +6,7 @@ use Prim.Native.Nat.{ℕ, zero, suc, _+_, _≤_, _<_}
 use native.Mathlib.Omega.{arith}
 use borrow.Author.Tests.{eq-eqb, ne-eqb, le-leb, lt-leb}
 use Rattle.waiting.specs.Heap.{single, count}
-use Rattle.waiting.specs.Sorted.{insertKey, ascending}
+use Rattle.waiting.specs.Sorted.{insertKey, ascendingKeys}
 use Rattle.waiting.proofs.Cases.{by-less, by-equal}
 
 -- x is at most each of the list
@@ -97,15 +97,15 @@ count-inserted y (z ∷ q) v =
 -- ---- the keys of a heap
 
 module _ (key : ℕ → ℕ) where
-  ascending-ascends : (n : ℕ) → Ascends (ascending key n)
-  unfolding ascending
+  ascending-ascends : (n : ℕ) → Ascends (ascendingKeys key n)
+  unfolding ascendingKeys
   ascending-ascends zero = tt
-  ascending-ascends (suc n) = inserted-ascends (key n) (ascending key n) (ascending-ascends n)
+  ascending-ascends (suc n) = inserted-ascends (key n) (ascendingKeys key n) (ascending-ascends n)
 
-  count-ascending : (n v : ℕ) → countIn (ascending key n) v ≡ count key n v
-  unfolding ascending
+  count-ascending : (n v : ℕ) → countIn (ascendingKeys key n) v ≡ count key n v
+  unfolding ascendingKeys
   count-ascending zero v = refl
-  count-ascending (suc n) v = count-inserted (key n) (ascending key n) v ∙ ap (λ (t : ℕ). t + single (key n) v) (count-ascending n v)
+  count-ascending (suc n) v = count-inserted (key n) (ascendingKeys key n) v ∙ ap (λ (t : ℕ). t + single (key n) v) (count-ascending n v)
 
   -- a key that is counted stands somewhere
   somewhere : (n y : ℕ) → 0 < count key n y → (i : ℕ) × ((i < n) × (key i ≡ y))
@@ -124,21 +124,21 @@ counted-at-most x (z ∷ q) h = ((let one = single-same z in h z (omega arith)),
 
 module _ (key after : ℕ → ℕ) (n m x : ℕ) where
   -- with one key more, it is put in its place
-  pub one-more-ascending : ((v : ℕ) → count after m v ≡ count key n v + single x v) → ascending after m ≡ insertKey x (ascending key n)
+  pub one-more-ascending : ((v : ℕ) → count after m v ≡ count key n v + single x v) → ascendingKeys after m ≡ insertKey x (ascendingKeys key n)
   one-more-ascending has =
-      one-list (ascending after m) (insertKey x (ascending key n)) (ascending-ascends after m) (inserted-ascends x (ascending key n) (ascending-ascends key n))
-      (λ v. count-ascending after m v ∙ has v ∙ ap (λ (t : ℕ). t + single x v) (sym (count-ascending key n v)) ∙ sym (count-inserted x (ascending key n) v))
+      one-list (ascendingKeys after m) (insertKey x (ascendingKeys key n)) (ascending-ascends after m) (inserted-ascends x (ascendingKeys key n) (ascending-ascends key n))
+      (λ v. count-ascending after m v ∙ has v ∙ ap (λ (t : ℕ). t + single x v) (sym (count-ascending key n v)) ∙ sym (count-inserted x (ascendingKeys key n) v))
 
   -- without the least key, the rest is left
-  pub least-ascending : ((v : ℕ) → count key n v ≡ count after m v + single x v) → ((j : ℕ) → j < n → x ≤ key j) → ascending key n ≡ x ∷ ascending after m
+  pub least-ascending : ((v : ℕ) → count key n v ≡ count after m v + single x v) → ((j : ℕ) → j < n → x ≤ key j) → ascendingKeys key n ≡ x ∷ ascendingKeys after m
   least-ascending has least =
-      let first : AtMost x (ascending after m) =
-      counted-at-most x (ascending after m)
+      let first : AtMost x (ascendingKeys after m) =
+      counted-at-most x (ascendingKeys after m)
       (λ v pos.
       let both = has v in
       let rest = count-ascending after m v in
       let place = somewhere key n v (omega arith) in
       let h = least (place .0) (place .1 .0) in
       omega (arith, place .1 .1)) in
-      one-list (ascending key n) (x ∷ ascending after m) (ascending-ascends key n) (first, ascending-ascends after m)
+      one-list (ascendingKeys key n) (x ∷ ascendingKeys after m) (ascending-ascends key n) (first, ascending-ascends after m)
       (λ v. count-ascending key n v ∙ has v ∙ ap (λ (t : ℕ). t + single x v) (sym (count-ascending after m v)))
