@@ -1,0 +1,84 @@
+// The cells that a walk through the lattice knows, in bytes that its caller lends: records in the order of first sight, found by hash chains.
+ghost use mathlib.Core.Path.{_≡_};
+ghost use Prim.Native.Nat.{_+_, _≤_, _<_};
+ghost use Rattle.known.specs.Known.{Roomy, mixedOf, bucketOf, cellIn, Known, Added, Emptied};
+ghost use Rattle.known.specs.Found.{Right};
+use refusal::Cell;
+
+// Where a cell stands among the known ones.
+pub enum Found {
+    At(usize),
+    Nowhere,
+}
+
+// One word of 32 bits from a cell's four. Cells that stand together fall apart: each factor is 2^32 over a power of the root of a^4 = a + 1, so that no small steps of x, y and z add up to nearly nothing.
+fn mixed(c: Cell) -> u64
+    ensures { λ r. ⌜ (r ≡ mixedOf c) × (r < 4294967296) ⌝ }
+{
+    let x = c.low / 4294967296 * 3518319155 % 4294967296;
+    let y = c.high % 4294967296 * 2882110345 % 4294967296;
+    let z = c.high / 4294967296 * 2360945575 % 4294967296;
+    let fields = c.low % 4294967296 * 1934021721 % 4294967296;
+    (x + y + z + fields) % 4294967296
+}
+
+// The chain on which a cell stands, of as many chains as there is room for cells.
+fn bucket(c: Cell, room: usize) -> usize
+    requires { ⌜ room ≤ 65536 ⌝ }
+    requires { ⌜ 0 < room ⌝ }
+    ensures { λ r. ⌜ (r ≡ bucketOf c room) × (r < room) ⌝ }
+{
+    (mixed(c) * (room as u64) / 4294967296) as usize
+}
+
+// The cell of record i.
+pub fn cell_at(workspace: &[u8], room: usize, i: usize) -> Cell
+    requires { ⌜ Roomy (now workspace) room ⌝ }
+    requires { ⌜ i < room ⌝ }
+    ensures { λ r. ⌜ r ≡ cellIn (now (workspace .entry)) room i ⌝ }
+{
+    let at = 4 * room + 40 * i;
+    Cell {
+        high: words::read64_little(workspace, at),
+        low: words::read64_little(workspace, at + 8),
+    }
+}
+
+// Along one chain, from its last record back to its first.
+pub fn find(workspace: &[u8], room: usize, count: usize, c: Cell) -> Found
+    requires { ⌜ Known (now workspace) room count ⌝ }
+    ensures { λ r. ⌜ Right (now (workspace .entry)) room count c r ⌝ }
+{
+    let mut link = words::read32_little(workspace, 4 * bucket(c, room)) as usize;
+    while 0 < link {
+        let i = link - 1;
+        if cell::same(cell_at(workspace, room, i), c) {
+            return Found::At(i);
+        }
+        link = words::read32_little(workspace, 4 * room + 40 * i + 16) as usize;
+    }
+    Found::Nowhere
+}
+
+// A cell's record behind the others, the last on its chain.
+pub fn add(workspace: &mut [u8], room: usize, count: usize, c: Cell)
+    requires { ⌜ Known (now workspace) room count ⌝ }
+    requires { ⌜ count < room ⌝ }
+    ensures { λ _. ⌜ Added (now (workspace .entry)) (now (workspace .exit)) room count c ⌝ }
+{
+    let head = 4 * bucket(c, room);
+    let at = 4 * room + 40 * count;
+    let last = words::read32_little(workspace, head);
+    words::write64_little(workspace, at, c.high);
+    words::write64_little(workspace, at + 8, c.low);
+    words::write32_little(workspace, at + 16, last);
+    words::write32_little(workspace, head, (count + 1) as u32);
+}
+
+// No cell is known, whatever the bytes hold.
+pub fn clear(workspace: &mut [u8], room: usize)
+    requires { ⌜ Roomy (now workspace) room ⌝ }
+    ensures { λ _. ⌜ Emptied (now (workspace .entry)) (now (workspace .exit)) room ⌝ }
+{
+    layer::records::zero(workspace, 0, 4 * room);
+}
