@@ -1,0 +1,3 @@
+pub mod Looked
+pub mod Written
+pub mod Appended

@@ -1,0 +1,16 @@
+-- What known's search answers, as the definition finds it. Assumes nothing.
+use mathlib.Core.List.{List}
+use Prim.Native.Nat.{ℕ}
+use Rattle.refusal.specs.declared.Cell.{Cell}
+use Rattle.words.specs.Word.{Bytes}
+use Rattle.cell.specs.Laws.{Words}
+use Rattle.known.specs.Found.{Right}
+use Rattle.known.specs.declared.Found.{Found}
+use Rattle.known.specs.declared.Found.the-variants.{At, Nowhere}
+use Rattle.rows.specs.Rows.{Rows, Looked}
+use Rattle.rows.specs.RowsLaws.{find-row, find-no-row}
+
+pub looked : (l : List ℕ) (room n : ℕ) (c : Cell) (r : Found) → Rows l room n → Bytes l → Words c → Right l room n c r → Looked l room n c r
+looked l room n c (At i) rows bytes words right =
+    (right .0, right .1, rw (right .1) at (find-row l room n rows bytes i (right .0)))
+looked l room n c Nowhere rows bytes words right = (right, find-no-row l room n c bytes words right)

@@ -1,0 +1,180 @@
+-- A row written into a record: its fields are read back, and no cell, link, head or field of another record changes. Assumes nothing.
+use mathlib.Core.Path.{_≡_, sym, ap, subst⁻¹, _∙_}
+use mathlib.Core.Logic.{_≢_}
+use mathlib.Core.List.{List}
+use Prim.Native.Nat.{ℕ, _+_, _*_, _^_, _≤_, _<_}
+use native.Mathlib.Decide.{ℕ-discrete}
+use native.Mathlib.Omega.{arith}
+use lib.Dec.{ltb}
+use lib.ListN.{length, drop}
+use Rattle.refusal.specs.Table.{rawOf}
+use Rattle.words.specs.Word.{little, word, stored, Bytes, Apart}
+use Rattle.words.specs.Laws.{length-stored, word-stored, word-stored-apart}
+use Rattle.known.specs.Known.{Roomy, Known, recordPlace, cellIn}
+use Rattle.known.specs.Laws.{cell-beside-field, known-beside-field, drop-after-stored}
+use Rattle.search.specs.Search.{Row, row, put, close}
+use Rattle.rows.specs.Rows.{markIn, gIn, beforeIn, rowIn, rowsIn, Rows, Changed}
+use Rattle.rows.specs.RowsLaws.{row-is, row-same, put-row, close-row}
+
+-- record i has these fields; all else stays
+pub record Written (l l′ : List ℕ) (room i mark g before : ℕ) : Type 0 where
+  pub known : (n : ℕ) → Known l room n → Known l′ room n
+  pub cells : (j : ℕ) → cellIn l′ room j ≡ cellIn l room j
+  pub others : (j p k : ℕ) → j ≢ i → 20 ≤ p → p + k ≤ 40 → word little k l′ (recordPlace room j + p) ≡ word little k l (recordPlace room j + p)
+  pub mark-is : markIn l′ room i ≡ mark
+  pub g-is : gIn l′ room i ≡ g
+  pub before-is : beforeIn l′ room i ≡ before
+  pub rest : drop (44 * room) l′ ≡ drop (44 * room) l
+  pub length-kept : length l′ ≡ length l
+
+-- ---- the mark alone
+
+abbrev withMark : List ℕ → ℕ → ℕ → ℕ → List ℕ
+withMark l room i mark = stored little 4 l (recordPlace room i + 20) mark
+
+module _ (l : List ℕ) (room i : ℕ) (roomy : Roomy l room) (below : i < room) where
+  marked : (mark : ℕ) → mark < 256 ^ 4 → Written l (withMark l room i mark) room i mark (gIn l room i) (beforeIn l room i)
+  marked mark small =
+      let size = roomy .size in
+      record {
+        known = known-beside-field little 4 l room i 20 mark (omega arith) (omega arith);
+        cells = cell-beside-field little 4 l room i 20 mark (omega arith) (omega arith);
+        others = λ j p k other from to. word-stored-apart little little 4 k l (recordPlace room i + 20) mark (recordPlace room j + p) (omega arith);
+        mark-is = word-stored little 4 l (recordPlace room i + 20) mark (omega arith) small;
+        g-is = word-stored-apart little little 4 8 l (recordPlace room i + 20) mark (recordPlace room i + 24) (omega arith);
+        before-is = word-stored-apart little little 4 4 l (recordPlace room i + 20) mark (recordPlace room i + 32) (omega arith);
+        rest = drop-after-stored little 4 l (recordPlace room i + 20) mark (44 * room) (omega arith);
+        length-kept = length-stored little 4 l (recordPlace room i + 20) mark;
+      }
+
+  pub marked-by : {l′ : List ℕ} → l′ ≡ stored little 4 l (recordPlace room i + 20) 1 → Written l l′ room i 1 (gIn l room i) (beforeIn l room i)
+  marked-by e = subst⁻¹ (λ (m : List ℕ). Written l m room i 1 (gIn l room i) (beforeIn l room i)) e (marked 1 (omega arith))
+
+-- ---- the whole row
+
+abbrev withCost : List ℕ → ℕ → ℕ → ℕ → List ℕ
+withCost l room i g = stored little 8 (withMark l room i 0) (recordPlace room i + 24) g
+
+abbrev withRow : List ℕ → ℕ → ℕ → ℕ → ℕ → List ℕ
+withRow l room i g before = stored little 4 (withCost l room i g) (recordPlace room i + 32) before
+
+module _ (l : List ℕ) (room i g before : ℕ) where
+  length-mark : length (withMark l room i 0) ≡ length l
+  length-mark = length-stored little 4 l (recordPlace room i + 20) 0
+
+  length-cost : length (withCost l room i g) ≡ length l
+  length-cost = length-stored little 8 (withMark l room i 0) (recordPlace room i + 24) g ∙ length-mark
+
+  length-row : length (withRow l room i g before) ≡ length l
+  length-row = length-stored little 4 (withCost l room i g) (recordPlace room i + 32) before ∙ length-cost
+
+  -- a word that no store covers stays
+  word-kept : (k q : ℕ) → Apart (recordPlace room i + 20) 16 q k → word little k (withRow l room i g before) q ≡ word little k l q
+  word-kept k q off =
+      word-stored-apart little little 4 k (withCost l room i g) (recordPlace room i + 32) before q (omega arith)
+      ∙ word-stored-apart little little 8 k (withMark l room i 0) (recordPlace room i + 24) g q (omega arith)
+      ∙ word-stored-apart little little 4 k l (recordPlace room i + 20) 0 q (omega arith)
+
+  known-kept : (n : ℕ) → Known l room n → Known (withRow l room i g before) room n
+  known-kept n known =
+      known-beside-field little 4 (withCost l room i g) room i 32 before (omega arith) (omega arith) n
+      (known-beside-field little 8 (withMark l room i 0) room i 24 g (omega arith) (omega arith) n
+      (known-beside-field little 4 l room i 20 0 (omega arith) (omega arith) n known))
+
+  cell-kept : (j : ℕ) → cellIn (withRow l room i g before) room j ≡ cellIn l room j
+  cell-kept j =
+      cell-beside-field little 4 (withCost l room i g) room i 32 before (omega arith) (omega arith) j
+      ∙ cell-beside-field little 8 (withMark l room i 0) room i 24 g (omega arith) (omega arith) j
+      ∙ cell-beside-field little 4 l room i 20 0 (omega arith) (omega arith) j
+
+  module _ (roomy : Roomy l room) (below : i < room) (cost : g < 256 ^ 8) (small : before < 256 ^ 4) where
+    mark-new : markIn (withRow l room i g before) room i ≡ 0
+    mark-new =
+        let size = roomy .size in
+        word-stored-apart little little 4 4 (withCost l room i g) (recordPlace room i + 32) before (recordPlace room i + 20) (omega arith)
+        ∙ word-stored-apart little little 8 4 (withMark l room i 0) (recordPlace room i + 24) g (recordPlace room i + 20) (omega arith)
+        ∙ word-stored little 4 l (recordPlace room i + 20) 0 (omega arith) (omega arith)
+
+    g-new : gIn (withRow l room i g before) room i ≡ g
+    g-new =
+        let size = roomy .size in
+        word-stored-apart little little 4 8 (withCost l room i g) (recordPlace room i + 32) before (recordPlace room i + 24) (omega arith)
+        ∙ word-stored little 8 (withMark l room i 0) (recordPlace room i + 24) g (omega (arith, length-mark)) cost
+
+    before-new : beforeIn (withRow l room i g before) room i ≡ before
+    before-new =
+        let size = roomy .size in
+        word-stored little 4 (withCost l room i g) (recordPlace room i + 32) before (omega (arith, length-cost)) small
+
+    rest-kept : drop (44 * room) (withRow l room i g before) ≡ drop (44 * room) l
+    rest-kept =
+        drop-after-stored little 4 (withCost l room i g) (recordPlace room i + 32) before (44 * room) (omega arith)
+        ∙ drop-after-stored little 8 (withMark l room i 0) (recordPlace room i + 24) g (44 * room) (omega arith)
+        ∙ drop-after-stored little 4 l (recordPlace room i + 20) 0 (44 * room) (omega arith)
+
+    written : Written l (withRow l room i g before) room i 0 g before
+    written =
+        record {
+          known = known-kept;
+          cells = cell-kept;
+          others = λ j p k other from to. word-kept k (recordPlace room j + p) (omega arith);
+          mark-is = mark-new;
+          g-is = g-new;
+          before-is = before-new;
+          rest = rest-kept;
+          length-kept = length-row;
+        }
+
+    -- the three stores, one after the other
+    pub written-by : {l₁ l₂ l₃ : List ℕ} → l₁ ≡ stored little 4 l (recordPlace room i + 20) 0 → l₂ ≡ stored little 8 l₁ (recordPlace room i + 24) g → l₃ ≡ stored little 4 l₂ (recordPlace room i + 32) before → Written l l₃ room i 0 g before
+    written-by {l₃ = l₃} mark at-cost back =
+        let is : l₃ ≡ withRow l room i g before = cc in
+        subst⁻¹ (λ (m : List ℕ). Written l m room i 0 g before) is written
+
+-- ---- what it leaves of the rows
+
+module _ (l l′ : List ℕ) (room n i mark g before : ℕ) (rows : Rows l room n) (within : before < n) (wrote : Written l l′ room i mark g before) where
+  back-kept : (j : ℕ) → j < n → beforeIn l′ room j < n
+  back-kept j less = by-place (ℕ-discrete j i)
+    where
+      by-place : Dec (j ≡ i) → beforeIn l′ room j < n
+      by-place (yes e) = omega (arith, ap (beforeIn l′ room) e, wrote .before-is)
+      by-place (no other) = omega (arith, wrote .others j 32 4 other (omega arith) (omega arith), rows .back j less)
+
+  changed : (list : List Row) → rowsIn l′ room n ≡ list → Changed l l′ room n n list
+  changed list is =
+      record {
+        good = record {
+          known = wrote .known n (rows .known);
+          apart = λ j k less fewer e. rows .apart j k less fewer (sym (wrote .cells j) ∙ e ∙ wrote .cells k);
+          back = back-kept;
+        };
+        rows-are = is;
+        cells = λ j less. wrote .cells j;
+        rest = wrote .rest;
+        length-kept = wrote .length-kept;
+      }
+
+  row-kept : (j : ℕ) → j ≢ i → rowIn l′ room j ≡ rowIn l room j
+  row-kept j other =
+      row-same l l′ room j (wrote .cells j)
+      (wrote .others j 24 8 other (omega arith) (omega arith))
+      (wrote .others j 32 4 other (omega arith) (omega arith))
+      (wrote .cells (beforeIn l room j))
+      (wrote .others j 20 4 other (omega arith) (omega arith))
+
+  row-new : rowIn l′ room i ≡ row (rawOf (cellIn l room i)) g (rawOf (cellIn l room before)) (ltb 0 mark)
+  row-new = row-is l′ room i (wrote .cells i) (wrote .g-is) (ap (cellIn l′ room) (wrote .before-is) ∙ wrote .cells before) (ap (ltb 0) (wrote .mark-is))
+
+pub lowered : (l l′ : List ℕ) (room n i g before : ℕ) → Rows l room n → Bytes l → i < n → before < n → Written l l′ room i 0 g before → Changed l l′ room n n (put (rawOf (cellIn l room i)) g (rawOf (cellIn l room before)) (rowsIn l room n))
+lowered l l′ room n i g before rows bytes below within wrote =
+    changed l l′ room n i 0 g before rows within wrote (put (rawOf (cellIn l room i)) g (rawOf (cellIn l room before)) (rowsIn l room n))
+    (put-row l room n rows bytes i below l′ (row-kept l l′ room n i 0 g before rows within wrote) g (rawOf (cellIn l room before)) (row-new l l′ room n i 0 g before rows within wrote))
+
+pub closed : (l l′ : List ℕ) (room n i : ℕ) → Rows l room n → Bytes l → i < n → Written l l′ room i 1 (gIn l room i) (beforeIn l room i) → Changed l l′ room n n (close (rawOf (cellIn l room i)) (rowsIn l room n))
+closed l l′ room n i rows bytes below wrote =
+    let g = gIn l room i in
+    let before = beforeIn l room i in
+    let within = rows .back i below in
+    changed l l′ room n i 1 g before rows within wrote (close (rawOf (cellIn l room i)) (rowsIn l room n))
+    (close-row l room n rows bytes i below l′ (row-kept l l′ room n i 1 g before rows within wrote) (row-new l l′ room n i 1 g before rows within wrote))

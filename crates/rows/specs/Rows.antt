@@ -1,0 +1,60 @@
+-- The rows of a search in the workspace of its known cells. In a record of `known`, whose first 20 bytes are the cell and its link, a search keeps its mark at 20, 4 bytes, not 0 where the
+-- cell is closed; its g at 24, 8 bytes; and at 32, 4 bytes, the number of the record of the cell before it on the way. Little-endian. Definitions only. Assumes nothing.
+use mathlib.Core.Path.{_≡_}
+use mathlib.Core.List.{List, [], _∷_}
+use mathlib.Core.Option.{none, some}
+use Prim.Native.Nat.{ℕ, zero, suc, _+_, _*_, _<_}
+use lib.Dec.{ltb}
+use lib.ListN.{length, drop}
+use Rattle.refusal.specs.declared.Cell.{Cell}
+use Rattle.refusal.specs.Table.{rawOf}
+use Rattle.words.specs.Word.{little, word}
+use Rattle.known.specs.Known.{recordPlace, cellIn, Known}
+use Rattle.known.specs.declared.Found.{Found}
+use Rattle.known.specs.declared.Found.the-variants.{At, Nowhere}
+use Rattle.search.specs.Search.{Row, row, find, put, close}
+
+abbrev pub markIn : List ℕ → ℕ → ℕ → ℕ
+markIn l room i = word little 4 l (recordPlace room i + 20)
+
+abbrev pub gIn : List ℕ → ℕ → ℕ → ℕ
+gIn l room i = word little 8 l (recordPlace room i + 24)
+
+-- the number of a record
+abbrev pub beforeIn : List ℕ → ℕ → ℕ → ℕ
+beforeIn l room i = word little 4 l (recordPlace room i + 32)
+
+-- record i as the definition's row
+unfoldable pub rowIn : List ℕ → ℕ → ℕ → Row
+unfolding cellIn word rawOf
+rowIn l room i = row (rawOf (cellIn l room i)) (gIn l room i) (rawOf (cellIn l room (beforeIn l room i))) (ltb 0 (markIn l room i))
+
+-- n rows, from one on
+unfoldable pub rowsFrom : (ℕ → Row) → ℕ → ℕ → List Row
+rowsFrom r i zero = []
+rowsFrom r i (suc n) = r i ∷ rowsFrom r (suc i) n
+
+unfoldable pub rowsIn : List ℕ → ℕ → ℕ → List Row
+unfolding rowIn rowsFrom
+rowsIn l room n = rowsFrom (rowIn l room) 0 n
+
+-- a workspace with n rows: no cell stands twice, and each row's way back leads to a row
+pub record Rows (l : List ℕ) (room n : ℕ) : Type 0 where
+  pub known : Known l room n
+  pub apart : (i j : ℕ) → i < n → j < n → cellIn l room i ≡ cellIn l room j → i ≡ j
+  pub back : (i : ℕ) → i < n → beforeIn l room i < n
+
+-- ---- what the functions answer and leave
+
+-- the record of a cell is what the definition finds
+abbrev pub Looked : List ℕ → ℕ → ℕ → Cell → Found → Type 0
+Looked l room n c (At i) = (i < n) × (cellIn l room i ≡ c) × (find (rawOf c) (rowsIn l room n) ≡ some (rowIn l room i))
+Looked l room n c Nowhere = ((j : ℕ) → j < n → cellIn l room j ≡ c → ⊥) × (find (rawOf c) (rowsIn l room n) ≡ none)
+
+-- rows that became others; the cells of the n records that were there, and what stands behind the records, stay
+pub record Changed (l l′ : List ℕ) (room n n′ : ℕ) (rows : List Row) : Type 0 where
+  pub good : Rows l′ room n′
+  pub rows-are : rowsIn l′ room n′ ≡ rows
+  pub cells : (i : ℕ) → i < n → cellIn l′ room i ≡ cellIn l room i
+  pub rest : drop (44 * room) l′ ≡ drop (44 * room) l
+  pub length-kept : length l′ ≡ length l
