@@ -1,4 +1,5 @@
-//! Lines of 10, 1,000 and 100,000 steps beside the Rust's, into an output that they fill.
+//! Lines of 10, 1,000 and 100,000 steps beside the Rust's: into an output that they fill, where the
+//! library first goes along the line to see whether it fits, and into one that is surely long enough.
 
 #![allow(deprecated)]
 
@@ -30,17 +31,23 @@ pub fn rows() {
         let ends = [start.to_bytes(), end.to_bytes()];
         let wanted = trace_line(start, end).unwrap();
         let listed: Vec<u8> = wanted.iter().flat_map(CellID::to_bytes).collect();
-        let mut output = vec![0; listed.len()];
-        line_library(&ends[0], &ends[1], &mut output);
-        assert!(output == listed, "trace_line: the lines differ");
-        let best = times(
-            1,
-            &mut steady(output, |output| line_library(&ends[0], &ends[1], output)),
-            &mut steady((start, end), |(start, end)| {
-                let line = trace_line(black_box(*start), *end).unwrap();
-                black_box(line).len() as u64
-            }),
-        );
-        println!("{}", line(&format!("trace_line, {} steps", 2 * x), best));
+        for (which, length) in [("tight", listed.len()), ("long", 16 * (2 * x as usize + 2))] {
+            let mut output = vec![0; length];
+            line_library(&ends[0], &ends[1], &mut output);
+            assert!(
+                output[..listed.len()] == listed,
+                "trace_line: the lines differ"
+            );
+            let best = times(
+                1,
+                &mut steady(output, |output| line_library(&ends[0], &ends[1], output)),
+                &mut steady((start, end), |(start, end)| {
+                    let line = trace_line(black_box(*start), *end).unwrap();
+                    black_box(line).len() as u64
+                }),
+            );
+            let name = format!("trace_line, {} steps, {which}", 2 * x);
+            println!("{}", line(&name, best));
+        }
     }
 }
