@@ -1,5 +1,9 @@
 pub mod Search
 pub mod Plan
+pub mod Midway
+pub mod Accepted
+pub mod Ending
+pub mod Rooms
 mod Cases
 pub mod KnownLaws
 pub mod WaitingLaws
@@ -7,4 +11,8 @@ mod Kept
 mod Trails
 mod Besides
 mod Judged
-pub mod Accepted
+mod Counted
+mod LargerRooms
+mod Shortages
+mod Refusals
+mod OneMore

@@ -1,20 +1,19 @@
 -- Why a route that is found leads to the goal at the cost that is told: of each known cell the cells before it are closed, go back to the start, and its g is the sum on the way.
 -- A closed cell is never put again, so nothing on such a trail changes. Over any problem. Assumes nothing.
 use mathlib.Core.Path.{_≡_, refl, sym, _∙_, subst}
-use mathlib.Core.Bool.{true, false, cond}
+use mathlib.Core.Bool.{true, false}
 use mathlib.Core.Logic.{_⊎_, inl, inr}
 use mathlib.Core.List.{List, [], _∷_}
-use Prim.Native.Nat.{ℕ, zero, suc, _+_}
+use Prim.Native.Nat.{ℕ, zero, suc}
 use native.Mathlib.Numerals.{add-one}
-use lib.Dec.{eqb, ltb}
-use borrow.Author.Tests.{eqb-true, eq-eqb, ne-eqb}
-use Rattle.refusal.specs.declared.Refusal.the-variants.{SearchLimitExceeded}
+use borrow.Author.Tests.{eq-eqb, ne-eqb}
 use Rattle.lattice.specs.Tables.{Each}
-use Rattle.search.specs.Search.{Problem, Told, is, refused, Row, Entry, State, state, Flow, going, done, found, stopped, find, put, close, isClosed, isKnown, gOf, beforeOf, plus, traced, pushed, relaxAll, around, arrived, entered, popped, next, step, run, begin}
-use Rattle.search.specs.Cases.{on-test, same-or-not, contrary}
-use Rattle.search.specs.KnownLaws.{find-put, find-put-other, known-put, g-close, before-close, known-close, closed-close, closed-now, closed-known, closed-apart}
-use Rattle.search.specs.WaitingLaws.{each-insert, each-follows}
-use Rattle.search.specs.Kept.{Holding, holding-follows, Lowered, relaxAll-keeps, run-keeps}
+use Rattle.search.specs.Search.{Problem, Told, is, refused, Row, Entry, State, Flow, done, found, find, put, close, isClosed, isKnown, gOf, beforeOf, plus, traced, pushed, relaxAll, arrived, popped, next, step, run, begin}
+use Rattle.search.specs.Cases.{same-or-not, contrary}
+use Rattle.search.specs.KnownLaws.{find-put, find-put-other, g-close, before-close, known-close, closed-close, closed-now, closed-known, closed-apart}
+use Rattle.search.specs.WaitingLaws.{each-follows, KnownCell, waits-put, waits-close}
+use Rattle.search.specs.Midway.{closing}
+use Rattle.search.specs.Kept.{Holding, holding-follows, Lowered, HasRoom, relaxAll-keeps, popped-keeps, run-keeps}
 
 module _ (P : Problem) (Beside : ℕ → ℕ → Type 0) where
   -- ---- what a route is
@@ -74,20 +73,17 @@ module _ (P : Problem) (Beside : ℕ → ℕ → Type 0) where
 
   -- ---- while the neighbours of a cell c are looked at, the cell closed after m others
 
-  abbrev Known : List Row → Entry → Type 0
-  Known k e = isKnown (find (e .cell) k) ≡ true
-
   record Around (c m g : ℕ) (s : State) : Type 0 where
     own : Trail (s .known) m c
     closed : isClosed (find c (s .known)) ≡ true
     trails : (x : ℕ) → isKnown (find x (s .known)) ≡ true → Trail (s .known) (suc m) x
-    waits : Each (Known (s .known)) (s .waiting)
+    waits : Each (KnownCell (s .known)) (s .waiting)
     left : isClosed (find (P .start) (s .known)) ≡ true
     counted : s .count ≡ suc m
     final : g ≡ gOf (find c (s .known))
 
-  push-around : (c m g n h : ℕ) (s : State) → Beside c n → Around c m g s → Lowered P n (plus g (P .cost c n)) s → Around c m g (pushed P c n (plus g (P .cost c n)) h s)
-  push-around c m g n h s beside a l =
+  push-around : (c m g n h : ℕ) (s : State) → Beside c n → Around c m g s → Lowered P n (plus g (P .cost c n)) s → HasRoom P n s → Around c m g (pushed P c n (plus g (P .cost c n)) h s)
+  push-around c m g n h s beside a l room =
       let t = plus g (P .cost c n) in
       let k = s .known in
       let unclosed = l .not-closed in
@@ -100,8 +96,7 @@ module _ (P : Problem) (Beside : ℕ → ℕ → Type 0) where
         trails = λ x known. same-or-not x n
             (λ e. rw e (after {n = n} c (λ f. closed-apart (P .start) n k (a .left) unclosed (sym f)) closed (rw find-put) (rw (find-put, same, ← (a .final))) beside (l .not-shut) own))
             (λ e. trail-put n t c k unclosed e (a .trails x (rw (find-put-other x n t c k e) at known)));
-        waits = each-insert (Known (put n t c k)) (record { f = plus t h; cell = n; g = t }) (s .waiting)
-            (each-follows (Known k) (Known (put n t c k)) (λ (e : Entry) i. known-put (e .cell) n t c k i) (s .waiting) (a .waits)) (rw find-put);
+        waits = waits-put n t c (plus t h) k (s .waiting) (a .waits);
         left = closed-kept n t c k unclosed (P .start) (a .left);
         counted = a .counted;
         final = rw same (a .final);
@@ -115,7 +110,7 @@ module _ (P : Problem) (Beside : ℕ → ℕ → Type 0) where
 
   record Between (s : State) : Type 0 where
     trails : (x : ℕ) → isKnown (find x (s .known)) ≡ true → Trail (s .known) (s .count) x
-    waits : Each (Known (s .known)) (s .waiting)
+    waits : Each (KnownCell (s .known)) (s .waiting)
     leaves : Each (Leaves (s .known)) (s .waiting)
 
   abbrev Right : List ℕ → ℕ → ℕ → Type 0
@@ -129,13 +124,31 @@ module _ (P : Problem) (Beside : ℕ → ℕ → Type 0) where
       record {
         trails = λ x h. rw (a .counted) (a .trails x h);
         waits = a .waits;
-        leaves = each-follows (Known (s .known)) (Leaves (s .known)) (λ (e : Entry) h. inr (a .left)) (s .waiting) (a .waits);
+        leaves = each-follows (KnownCell (s .known)) (Leaves (s .known)) (λ (e : Entry) h. inr (a .left)) (s .waiting) (a .waits);
       }
 
+  closing-around : (e : Entry) (rest : List Entry) (s : State) → Between s → Each (KnownCell (s .known)) (e ∷ rest) → Each (Leaves (s .known)) (e ∷ rest)
+      → Around (e .cell) (s .count) (gOf (find (e .cell) (s .known))) (closing (e .cell) rest s)
+  closing-around e rest s b waits leaves =
+      let c = e .cell in
+      let k = s .known in
+      record {
+        own = trail-close c (b .trails c (waits .0));
+        closed = closed-now c k (waits .0);
+        trails = λ x known. longer (trail-close c (b .trails x (rw (known-close x c k) at known)));
+        waits = waits-close c k rest (waits .1);
+        left = left-now (leaves .0);
+        counted = add-one (s .count);
+        final = sym (g-close c c k);
+      }
+    where
+      left-now : Leaves (s .known) e → isClosed (find (P .start) (close (e .cell) (s .known))) ≡ true
+      left-now (inl f) = rw (← f) (closed-now (e .cell) (s .known) (waits .0))
+      left-now (inr h) = closed-close (P .start) (e .cell) (s .known) h
+
   module _ (near-beside : (c : ℕ) (ns : List ℕ) → P .near c ≡ is ns → Each (Beside c) ns) where
-    around-good : (c m g : ℕ) (s : State) → Around c m g s → (ns : Told (List ℕ)) → P .near c ≡ ns → Good (around P c g s ns)
-    around-good c m g s a (refused r) e = tt
-    around-good c m g s a (is ns) e =
+    looking-good : (c m g : ℕ) (s : State) → Around c m g s → (ns : List ℕ) → P .near c ≡ is ns → Good (relaxAll P c g ns s)
+    looking-good c m g s a ns e =
         holding-follows (Around c m g) Between Right (around-between c m g) (relaxAll P c g ns s)
         (relaxAll-keeps P c g (Beside c) (Around c m g) (push-around c m g) ns s (near-beside c ns e) a)
 
@@ -145,40 +158,21 @@ module _ (P : Problem) (Beside : ℕ → ℕ → Type 0) where
         subst (λ (x : ℕ). Route x (gOf (find x (s .known))) (traced (P .start) (s .count) (s .known) x [])) e
         (rw (a .counted) (trail-route (a .trails c (closed-known (find c (s .known)) (a .closed))) here))
 
-    entered-good : (c m g : ℕ) (s : State) → Around c m g s → Good (entered P c g s)
-    unfolding entered
-    entered-good c m g s a =
-        on-test Good (ltb (P .limit) (s .count)) (stopped (SearchLimitExceeded (record { expansions = s .count; limit = P .limit }))) (cond (eqb c (P .goal)) (done (arrived P s)) (around P c g s (P .near c)))
-        (λ e. tt)
-        (λ e. on-test Good (eqb c (P .goal)) (done (arrived P s)) (around P c g s (P .near c)) (λ q. goal-good c m g s a (eqb-true c (P .goal) q)) (λ q. around-good c m g s a (P .near c) refl))
-
-    popped-good : (e : Entry) (rest : List Entry) (s : State) → Between s → Each (Known (s .known)) (e ∷ rest) → Each (Leaves (s .known)) (e ∷ rest) → Good (popped P (e .cell) rest s)
-    unfolding popped
+    popped-good : (e : Entry) (rest : List Entry) (s : State) → Between s → Each (KnownCell (s .known)) (e ∷ rest) → Each (Leaves (s .known)) (e ∷ rest) → Good (popped P (e .cell) rest s)
     popped-good e rest s b waits leaves =
         let c = e .cell in
-        let k = s .known in
-        let g = gOf (find c k) in
-        on-test Good (isClosed (find c k)) (going (state k rest (s .count))) (entered P c g (state (close c k) rest (s .count + 1)))
+        let g = gOf (find c (s .known)) in
+        let a = closing-around e rest s b waits leaves in
+        popped-keeps P Between Right c rest s
         (λ h. record { trails = b .trails; waits = waits .1; leaves = leaves .1 })
-        (λ h. entered-good c (s .count) g (state (close c k) rest (s .count + 1)) record {
-          own = trail-close c (b .trails c (waits .0));
-          closed = closed-now c k (waits .0);
-          trails = λ x known. longer (trail-close c (b .trails x (rw (known-close x c k) at known)));
-          waits = each-follows (Known k) (Known (close c k)) (λ (d : Entry) i. known-close (d .cell) c k ∙ i) rest (waits .1);
-          left = left-now (leaves .0);
-          counted = add-one (s .count);
-          final = sym (g-close c c k);
-        })
-      where
-        left-now : Leaves (s .known) e → isClosed (find (P .start) (close (e .cell) (s .known))) ≡ true
-        left-now (inl f) = rw (← f) (closed-now (e .cell) (s .known) (waits .0))
-        left-now (inr h) = closed-close (P .start) (e .cell) (s .known) h
+        (λ h. goal-good c (s .count) g (closing c rest s) a)
+        (λ h. looking-good c (s .count) g (closing c rest s) a)
 
     step-good : (s : State) → Between s → Good (step P s)
     unfolding step
     step-good s b = go (s .waiting) (b .waits) (b .leaves)
       where
-        go : (w : List Entry) → Each (Known (s .known)) w → Each (Leaves (s .known)) w → Good (next P w s)
+        go : (w : List Entry) → Each (KnownCell (s .known)) w → Each (Leaves (s .known)) w → Good (next P w s)
         go [] waits leaves = tt
         go (e ∷ rest) waits leaves = popped-good e rest s b waits leaves
 

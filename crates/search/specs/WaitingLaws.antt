@@ -1,12 +1,14 @@
--- What holds of each waiting entry holds of each after another was put in its place. Assumes nothing.
-use mathlib.Core.Path.{_≡_, refl, ap}
+-- What holds of each waiting entry holds of each after another was put in its place; and the cells of all entries stay known. Assumes nothing.
+use mathlib.Core.Path.{_≡_, refl, ap, _∙_}
+use mathlib.Core.Bool.{true}
 use mathlib.Core.List.{List, [], _∷_}
-use Prim.Native.Nat.{suc}
+use Prim.Native.Nat.{ℕ, suc}
 use lib.Dec.{leb}
 use lib.ListN.{length}
 use Rattle.lattice.specs.Tables.{Each}
-use Rattle.search.specs.Search.{Entry, keyOf, insert}
+use Rattle.search.specs.Search.{Row, Entry, find, put, close, isKnown, keyOf, insert}
 use Rattle.search.specs.Cases.{on-test}
+use Rattle.search.specs.KnownLaws.{find-put, known-put, known-close}
 
 pub each-insert : (Q : Entry → Type 0) (e : Entry) (w : List Entry) → Each Q w → Q e → Each Q (insert e w)
 unfolding insert
@@ -22,3 +24,17 @@ length-insert e (d ∷ ds) = on-test (λ (l : List Entry). length l ≡ suc (suc
 pub each-follows : {A : Type 0} (Q R : A → Type 0) → ((x : A) → Q x → R x) → (l : List A) → Each Q l → Each R l
 each-follows Q R f [] h = tt
 each-follows Q R f (x ∷ l) h = (f x (h .0), each-follows Q R f l (h .1))
+
+-- ---- the cells that wait are known
+
+abbrev pub KnownCell : List Row → Entry → Type 0
+KnownCell k e = isKnown (find (e .cell) k) ≡ true
+
+-- the cell that was put, with its entry
+pub waits-put : (c g b f : ℕ) (k : List Row) (w : List Entry) → Each (KnownCell k) w → Each (KnownCell (put c g b k)) (insert (record { f = f; cell = c; g = g }) w)
+waits-put c g b f k w h =
+    each-insert (KnownCell (put c g b k)) (record { f = f; cell = c; g = g }) w
+    (each-follows (KnownCell k) (KnownCell (put c g b k)) (λ (e : Entry) (i : KnownCell k e). known-put (e .cell) c g b k i) w h) (rw find-put)
+
+pub waits-close : (c : ℕ) (k : List Row) (w : List Entry) → Each (KnownCell k) w → Each (KnownCell (close c k)) w
+waits-close c k w h = each-follows (KnownCell k) (KnownCell (close c k)) (λ (e : Entry) (i : KnownCell k e). known-close (e .cell) c k ∙ i) w h
