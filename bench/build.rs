@@ -1,9 +1,10 @@
 //! Links the library: what TISHKOLAN_LIBRARY names, as bench/run sets it. Calls that it does not
 //! have are not timed.
 
-const GROUPS: [(&str, &str); 2] = [
+const GROUPS: [(&str, &str); 3] = [
     ("aggregates", "tishkolan_values_rollup"),
     ("survey", "tishkolan_survey_write"),
+    ("routes", "tishkolan_route_verdict"),
 ];
 
 fn main() {

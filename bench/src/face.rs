@@ -108,4 +108,5 @@ extern "C" {
     pub fn tishkolan_values_rollup(fine: *const u8, length: usize, count: usize, how: u32, coarse: *mut u8, coarse_length: usize, coarse_count: usize) -> CountAnswer;
     pub fn tishkolan_survey_load(file: *const u8, length: usize, flags: *mut u8, flags_length: usize, flags_count: usize, values: *mut u8, values_length: usize, values_count: usize) -> LoadAnswer;
     pub fn tishkolan_survey_write(flags: *const u8, flags_length: usize, flags_count: usize, values: *const u8, values_length: usize, values_count: usize, out: *mut u8, length: usize) -> LengthAnswer;
+    pub fn tishkolan_route_verdict(route: *const u8, length: usize, start: *const u8, start_length: usize, goal: *const u8, goal_length: usize, cost: u64, flags: *const u8, flags_length: usize, flags_count: usize, rule: u32) -> u32;
 }

@@ -2,14 +2,16 @@
 //! the same inputs, in turn, in one run. Prints nanoseconds per call and the library's time over the
 //! Rust's. The two must give the same answers.
 //!
-//!   bench [cells] [layers] [aggregates] [survey]    those lines alone
+//!   bench [cells] [layers] [aggregates] [survey] [routes]    those lines alone
 
 #[cfg(aggregates)]
 mod aggregates;
 mod cells;
-#[cfg_attr(not(all(aggregates, survey)), allow(dead_code))]
+#[cfg_attr(not(all(aggregates, survey, routes)), allow(dead_code))]
 mod face;
 mod layers;
+#[cfg(routes)]
+mod routes;
 #[cfg(survey)]
 mod survey;
 mod timing;
@@ -28,17 +30,25 @@ mod survey {
     }
 }
 
+#[cfg(not(routes))]
+mod routes {
+    pub fn rows() {
+        println!("routes: not in this library");
+    }
+}
+
 fn main() {
     let words: Vec<String> = std::env::args().skip(1).collect();
     println!(
         "{:38} {:>11} {:>11} {:>8} {:>11}",
         "ns per call", "library", "Rust", "ratio", "of it test"
     );
-    let groups: [(&str, fn()); 4] = [
+    let groups: [(&str, fn()); 5] = [
         ("cells", cells::rows),
         ("layers", layers::rows),
         ("aggregates", aggregates::rows),
         ("survey", survey::rows),
+        ("routes", routes::rows),
     ];
     for (name, rows) in groups {
         if words.is_empty() || words.iter().any(|word| word == name) {

@@ -21,6 +21,7 @@ pub const NO_ROOM: u32 = 10;
 pub const BAD_FILE: u32 = 12;
 pub const BAD_LIST: u32 = 13;
 pub const BAD_LAYER: u32 = 14;
+pub const BAD_RULE: u32 = 15;
 
 /// A refusal with everything that it carries; all zero where the call answers.
 #[derive(Debug, Clone, Copy, PartialEq, Eq, Default)]

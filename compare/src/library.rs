@@ -33,6 +33,8 @@ fn take(request: &Request, from: &mut &[u8]) -> Said {
 impl Asked for Request {
     type Wanted = Answer;
 
+    const COUNTED: &'static str = "answered, refused";
+
     fn calls() -> Vec<(u8, &'static str)> {
         Call::ALL.map(|call| (call.number(), call.name())).to_vec()
     }
@@ -60,7 +62,7 @@ impl Asked for Request {
         expected(self)
     }
 
-    fn refused(wanted: &Answer) -> u32 {
+    fn counted(wanted: &Answer) -> u32 {
         wanted.refusal.number
     }
 

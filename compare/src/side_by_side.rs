@@ -13,6 +13,9 @@ const BATCH_BYTES: usize = 4 << 20;
 /// So often the library's program may end under a call before the comparison stops.
 const ENDINGS: u64 = 50;
 
+/// The numbers under which answers are counted: those of refusals and verdicts.
+const KINDS: usize = 26;
+
 /// Where requests go.
 pub type Sink<'a, R> = &'a mut dyn FnMut(R);
 
@@ -20,6 +23,9 @@ pub type Sink<'a, R> = &'a mut dyn FnMut(R);
 pub trait Asked: Clone {
     /// All that the call has to say.
     type Wanted;
+
+    /// What the counts behind a call's line are: that of number 0, then those of the others.
+    const COUNTED: &'static str;
 
     /// The calls by their numbers, with the names of the header without `tishkolan_`.
     fn calls() -> Vec<(u8, &'static str)>;
@@ -33,8 +39,9 @@ pub trait Asked: Clone {
     /// What the oracle says.
     fn wanted(&self) -> Self::Wanted;
 
-    /// The refusal's number; 0 where the call answers.
-    fn refused(wanted: &Self::Wanted) -> u32;
+    /// The number under which it is counted, below KINDS: a refusal's, or 0 where the call answers;
+    /// a verdict or a choice.
+    fn counted(wanted: &Self::Wanted) -> u32;
 
     /// Takes what the library said off the front, and says what is wrong with it.
     fn judge(&self, wanted: &Self::Wanted, said: &mut &[u8]) -> Vec<String>;
@@ -50,8 +57,8 @@ pub trait Asked: Clone {
 struct Found<R> {
     compared: u64,
     differences: u64,
-    /// How often each refusal was due, by its number; 0 where the call answers.
-    due: [u64; 16],
+    /// How often an answer of each number was due.
+    due: [u64; KINDS],
     smallest: Option<(R, String)>,
 }
 
@@ -138,7 +145,7 @@ impl<R: Asked> Comparison<R> {
         let wrong = request.judge(wanted, said);
         let found = &mut self.found[usize::from(request.number())];
         found.compared += 1;
-        found.due[R::refused(wanted) as usize] += 1;
+        found.due[R::counted(wanted) as usize] += 1;
         if !wrong.is_empty() {
             self.differ(request, wrong.join("; "));
         }
@@ -159,8 +166,11 @@ impl<R: Asked> Comparison<R> {
     /// Prints what was found; whether nothing differs.
     fn report(&self) -> bool {
         println!(
-            "{:28} {:>10} {:>11}   answered, refused",
-            "call", "compared", "differences"
+            "{:28} {:>10} {:>11}   {}",
+            "call",
+            "compared",
+            "differences",
+            R::COUNTED
         );
         let mut total = Found::<R>::none();
         for (number, name) in R::calls() {
@@ -186,12 +196,12 @@ impl<R> Found<R> {
         Found {
             compared: 0,
             differences: 0,
-            due: [0; 16],
+            due: [0; KINDS],
             smallest: None,
         }
     }
 
-    /// One line: the counts, then how many answers were due and how many of each refusal.
+    /// One line: the counts, then how many answers of each number were due.
     fn print(&self, name: &str) {
         let mut due = self.due[0].to_string();
         for (number, count) in self.due.iter().enumerate().skip(1) {

@@ -32,6 +32,7 @@
 use crate::{cell, RECORD};
 use compare::layers::calls::{Call, Of, Request};
 use compare::layers::expected::expected;
+use compare::lent::Called;
 use compare::random::Random;
 
 type Cell = [u8; 16];

@@ -1,6 +1,7 @@
 //! The calls of include/tishkolan.h on layers: their numbers, and one request for one of them.
 
-use crate::calls::hex;
+use super::expected::expected;
+use crate::lent::{self, Answer, Called};
 
 /// Which of the two kinds of layer.
 #[derive(Debug, Clone, Copy, PartialEq, Eq)]
@@ -70,13 +71,23 @@ pub const ALL: [(u8, Call, &str); 24] = [
     (44, Call::IsBlocked, "is_blocked"),
 ];
 
-impl Call {
-    pub fn number(self) -> u8 {
+pub type Request = lent::Request<Call>;
+
+impl Called for Call {
+    const BUFFERS: usize = 3;
+    const COUNTED: &'static str = "answered, refused";
+
+    fn all() -> Vec<(u8, &'static str)> {
+        ALL.iter()
+            .map(|&(number, _, name)| (number, name))
+            .collect()
+    }
+
+    fn number(self) -> u8 {
         ALL.iter().find(|row| row.1 == self).unwrap().0
     }
 
-    /// What the numbers of a request are, in order.
-    pub fn numbers(self) -> &'static [&'static str] {
+    fn numbers(self) -> &'static [&'static str] {
         match self {
             Call::Set(_) => &["count", "kept"],
             Call::Clear(_) => &[],
@@ -89,8 +100,7 @@ impl Call {
         }
     }
 
-    /// What its buffers are, in the order of the header.
-    pub fn buffers(self) -> &'static [&'static str] {
+    fn buffers(self) -> &'static [&'static str] {
         match self {
             Call::Set(_) | Call::Get(_) | Call::Remove(_) | Call::Contains(_) => &["table", "cell"],
             Call::Clear(_) | Call::Count(_) | Call::IsEmpty(_) => &["table"],
@@ -102,49 +112,12 @@ impl Call {
             Call::HasFlag | Call::SetFlag | Call::ClearFlag | Call::IsBlocked => &[],
         }
     }
-}
 
-/// One call with its arguments and all that it is lent.
-#[derive(Debug, Clone)]
-pub struct Request {
-    pub call: Call,
-    pub numbers: Vec<u64>,
-    pub buffers: Vec<Vec<u8>>,
-    /// Lend NULL where a length is 0.
-    pub null: bool,
-}
-
-impl Request {
-    pub fn new(call: Call, numbers: &[u64], buffers: &[&[u8]]) -> Request {
-        assert_eq!(numbers.len(), call.numbers().len());
-        assert_eq!(buffers.len(), call.buffers().len());
-        Request {
-            call,
-            numbers: numbers.to_vec(),
-            buffers: buffers.iter().map(|buffer| buffer.to_vec()).collect(),
-            null: false,
-        }
+    fn expected(request: &Request) -> Answer {
+        expected(request)
     }
 
-    /// How far the input is from nothing: first by the bytes lent, then by the numbers.
-    pub fn size(&self) -> u128 {
-        let bytes: usize = self.buffers.iter().map(Vec::len).sum();
-        let numbers: u128 = self.numbers.iter().map(|&number| u128::from(number)).sum();
-        ((bytes as u128) << 70) + numbers
-    }
-
-    /// The input in words; of a long buffer only the front.
-    pub fn words(&self) -> String {
-        let numbers = self.call.numbers().iter().zip(&self.numbers);
-        let buffers = self.call.buffers().iter().zip(&self.buffers);
-        let mut words: Vec<String> = numbers
-            .map(|(name, number)| format!("{name} {number} (0x{number:X})"))
-            .collect();
-        words.extend(buffers.map(|(name, bytes)| {
-            let front = &bytes[..bytes.len().min(96)];
-            let more = if front.len() < bytes.len() { " .." } else { "" };
-            format!("{name} ({}) {}{more}", bytes.len(), hex(front))
-        }));
-        words.join(", ")
+    fn counted(answer: &Answer) -> u32 {
+        answer.refusal.number
     }
 }

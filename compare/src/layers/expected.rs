@@ -8,21 +8,13 @@ use super::calls::{Call, Of, Request};
 use super::survey;
 use super::table::{self, Kept};
 use crate::expected::{Refusal, BAD_FILE, BAD_LIST, HAS_NAN, NO_VALUES, OUT_OF_RANGE};
+use crate::lent::Answer;
 use oracle::error::Error;
 use oracle::id::CellID;
 use oracle::layer::{Aggregation, CellFlags, Layer};
 
 /// What is written where an operation made a NaN.
 pub const MADE_NAN: u64 = 0x7FF8_0000_0000_0000;
-
-/// All that a call says, and all that it was lent as it stands at return.
-#[derive(Debug, Clone, PartialEq, Eq)]
-pub struct Answer {
-    pub refusal: Refusal,
-    /// The answer's numbers in the order of the header.
-    pub values: [u64; 4],
-    pub buffers: Vec<Vec<u8>>,
-}
 
 /// A refusal, with the byte place of BadFile.
 struct Refused {
@@ -45,7 +37,7 @@ fn says(numbers: &[u64]) -> Said {
 }
 
 /// The cells of a list; BadList where its length is no multiple of 16.
-fn cells(list: &[u8]) -> Result<Vec<CellID>, Refusal> {
+pub(crate) fn cells(list: &[u8]) -> Result<Vec<CellID>, Refusal> {
     if list.len() % 16 != 0 {
         return Err(Refusal::plain(BAD_LIST));
     }
@@ -56,7 +48,7 @@ fn cells(list: &[u8]) -> Result<Vec<CellID>, Refusal> {
 }
 
 /// A single cell; BadList at another length than 16.
-fn one_cell(bytes: &[u8]) -> Result<CellID, Refusal> {
+pub(crate) fn one_cell(bytes: &[u8]) -> Result<CellID, Refusal> {
     match cells(bytes)?[..] {
         [cell] => Ok(cell),
         _ => Err(Refusal::plain(BAD_LIST)),

@@ -2,7 +2,6 @@
 
 pub mod calls;
 pub mod expected;
-mod library;
 pub mod limits;
 pub mod random;
 pub mod survey;

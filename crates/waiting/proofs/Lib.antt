@@ -1,0 +1,9 @@
+mod Cases
+mod Decides
+mod Stored
+mod Least
+mod Holes
+mod Moves
+mod Counted
+mod Answers
+pub mod Points

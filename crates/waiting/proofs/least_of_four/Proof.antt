@@ -1,0 +1,48 @@
+-- The lesser of the two that are each the lesser of two.
+use borrow.Author.Needs.{needs}
+use native.Mathlib.Omega.{arith}
+use Rattle.waiting.specs.Entries.{keyIn}
+use Rattle.waiting.proofs.Least.{least-of-four}
+use Rattle.waiting.proofs.least_of_four.Statement.{statement}
+use Rattle.waiting.proofs.least_of_four.Tie as tie
+
+lesser-requires : tie.Need-lesser-requires
+lesser-requires c κs = search needs
+
+add-lesser : tie.Need-add-lesser
+add-lesser c = search needs
+
+lesser-requires-2 : tie.Need-lesser-requires-2
+lesser-requires-2 c κs = search needs
+
+sub-result : tie.Need-sub-result
+sub-result c = search needs
+
+less-at-requires : tie.Need-less-at-requires
+less-at-requires c κs = search needs
+
+cast-result : tie.Need-cast-result
+cast-result c = search needs
+
+mul-result : tie.Need-mul-result
+mul-result c = let four = least-of-four (keyIn (c .before .before .before .before .args .heap .now)) (c .before .before .before .before .args .a) (c .before .before .lesser .result) (c .before .lesser2 .result) (c .before .before .lesser .ensures) (c .before .lesser2 .ensures) (c .less-at .result) (c .less-at .ensures) in omega (arith, four .to)
+
+add-result : tie.Need-add-result
+add-result c = let four = least-of-four (keyIn (c .before .before .before .before .args .heap .now)) (c .before .before .before .before .args .a) (c .before .before .lesser .result) (c .before .lesser2 .result) (c .before .before .lesser .ensures) (c .before .lesser2 .ensures) (c .less-at .result) (c .less-at .ensures) in omega (arith, four .to)
+
+returns : tie.Need-returns
+returns c = least-of-four (keyIn (c .before .before .before .before .args .heap .now)) (c .before .before .before .before .args .a) (c .before .before .lesser .result) (c .before .lesser2 .result) (c .before .before .lesser .ensures) (c .before .lesser2 .ensures) (c .less-at .result) (c .less-at .ensures)
+
+pub least-of-four-spec : {M : Type 1} → statement M
+least-of-four-spec =
+    tie.close
+    (tie.spec
+    lesser-requires
+    add-lesser
+    lesser-requires-2
+    sub-result
+    less-at-requires
+    cast-result
+    mul-result
+    add-result
+    returns)

@@ -1,0 +1,201 @@
+// The waiting entries of a search, in bytes that a caller lends: a heap of four children, which has its least key at place 0.
+// An entry is four little-endian words: f, the cell's high word, its low word, g. In this order they decide which entry is less.
+ghost use mathlib.Core.Path.{_≡_};
+ghost use Prim.Native.Nat.{_+_, _*_, _≤_, _<_};
+ghost use lib.Dec.{ltb};
+ghost use lib.ListN.{length};
+ghost use Rattle.waiting.specs.Heap.{Heap, Hole, Below, Replaced};
+ghost use Rattle.waiting.specs.Entries.{keyOf, entryAt, keyIn};
+ghost use Rattle.waiting.specs.Steps.{LesserOfTwo, LeastOfFour, LeastChild, Dug, Risen, Pushed, Popped};
+use refusal::Cell;
+
+pub struct Entry {
+    // The cost so far and the estimate of what is left, together.
+    pub f: u64,
+    pub cell: Cell,
+    // The cost so far.
+    pub g: u64,
+}
+
+// The entry at place i.
+fn entry_at(heap: &[u8], i: usize) -> Entry
+    requires { ⌜ 32 * i + 32 ≤ length (now heap) ⌝ }
+    ensures { λ r. ⌜ r ≡ entryAt (now (heap .entry)) i ⌝ }
+{
+    let at = 32 * i;
+    let f = words::read64_little(heap, at);
+    let high = words::read64_little(heap, at + 8);
+    let low = words::read64_little(heap, at + 16);
+    let g = words::read64_little(heap, at + 24);
+    Entry {
+        f,
+        cell: Cell { high, low },
+        g,
+    }
+}
+
+// Puts e at place i.
+fn store(heap: &mut [u8], i: usize, e: Entry)
+    requires { ⌜ 32 * i + 32 ≤ length (now heap) ⌝ }
+    ensures { λ _. ⌜ Replaced (keyIn (now (heap .entry))) (keyIn (now (heap .exit))) i (keyOf e) ⌝ }
+{
+    let at = 32 * i;
+    words::write64_little(heap, at, e.f);
+    words::write64_little(heap, at + 8, e.cell.high);
+    words::write64_little(heap, at + 16, e.cell.low);
+    words::write64_little(heap, at + 24, e.g);
+}
+
+// Puts the entry at `from` at `to` as well: word by word, so that each is one load and one store.
+fn copy(heap: &mut [u8], from: usize, to: usize)
+    requires { ⌜ (32 * from + 32 ≤ length (now heap)) × (32 * to + 32 ≤ length (now heap)) ⌝ }
+    ensures { λ _. ⌜ Replaced (keyIn (now (heap .entry))) (keyIn (now (heap .exit))) to (keyIn (now (heap .entry)) from) ⌝ }
+{
+    let source = 32 * from;
+    let target = 32 * to;
+    let f = words::read64_little(heap, source);
+    words::write64_little(heap, target, f);
+    let high = words::read64_little(heap, source + 8);
+    words::write64_little(heap, target + 8, high);
+    let low = words::read64_little(heap, source + 16);
+    words::write64_little(heap, target + 16, low);
+    let g = words::read64_little(heap, source + 24);
+    words::write64_little(heap, target + 24, g);
+}
+
+// Whether a is less than b, which has the same f.
+fn less_tied(a: Entry, b: Entry) -> bool
+    requires { ⌜ a .f ≡ b .f ⌝ }
+    ensures { λ r. ⌜ r ≡ ltb (keyOf a) (keyOf b) ⌝ }
+{
+    if a.cell.high == b.cell.high {
+        if a.cell.low == b.cell.low {
+            return a.g < b.g;
+        }
+        return a.cell.low < b.cell.low;
+    }
+    a.cell.high < b.cell.high
+}
+
+// Whether e is less than the entry at place i: by f alone, but for a tie.
+fn less_than_at(heap: &[u8], e: Entry, i: usize) -> bool
+    requires { ⌜ 32 * i + 32 ≤ length (now heap) ⌝ }
+    ensures { λ r. ⌜ r ≡ ltb (keyOf e) (keyIn (now (heap .entry)) i) ⌝ }
+{
+    let f = words::read64_little(heap, 32 * i);
+    if e.f == f {
+        return less_tied(e, entry_at(heap, i));
+    }
+    e.f < f
+}
+
+// Whether the entry at place i is less than that at place j: by f alone, but for a tie.
+fn less_at(heap: &[u8], i: usize, j: usize) -> bool
+    requires { ⌜ (32 * i + 32 ≤ length (now heap)) × (32 * j + 32 ≤ length (now heap)) ⌝ }
+    ensures { λ r. ⌜ r ≡ ltb (keyIn (now (heap .entry)) i) (keyIn (now (heap .entry)) j) ⌝ }
+{
+    let a = words::read64_little(heap, 32 * i);
+    let b = words::read64_little(heap, 32 * j);
+    if a == b {
+        return less_tied(entry_at(heap, i), entry_at(heap, j));
+    }
+    a < b
+}
+
+// The place of the lesser of the entries at a and a + 1, with no branch on which it is.
+fn lesser(heap: &[u8], a: usize) -> usize
+    requires { ⌜ 32 * a + 64 ≤ length (now heap) ⌝ }
+    ensures { λ r. ⌜ LesserOfTwo (keyIn (now (heap .entry))) a r ⌝ }
+{
+    a + less_at(heap, a + 1, a) as usize
+}
+
+// The place of the least of the four entries from a on.
+fn least_of_four(heap: &[u8], a: usize) -> usize
+    requires { ⌜ 32 * a + 128 ≤ length (now heap) ⌝ }
+    ensures { λ r. ⌜ LeastOfFour (keyIn (now (heap .entry))) a r ⌝ }
+{
+    let b = lesser(heap, a);
+    let c = lesser(heap, a + 2);
+    b + (c - b) * (less_at(heap, c, b) as usize)
+}
+
+// The place of the least child of i, which has one at least.
+fn least_child(heap: &[u8], size: usize, i: usize) -> usize
+    requires { ⌜ (4 * i + 1 < size) × (32 * size ≤ length (now heap)) ⌝ }
+    ensures { λ r. ⌜ LeastChild (keyIn (now (heap .entry))) size i r ⌝ }
+{
+    let first = 4 * i + 1;
+    if first + 3 < size {
+        return least_of_four(heap, first);
+    }
+    let mut least = first;
+    let mut j = first + 1;
+    while j < size {
+        if less_at(heap, j, least) {
+            least = j;
+        }
+        j += 1;
+    }
+    least
+}
+
+// Moves the hole at place 0 down to where it has no child, always to the least one; answers that place.
+fn dig(heap: &mut [u8], size: usize) -> usize
+    requires { ⌜ Hole (keyIn (now heap)) size 0 ⌝ }
+    requires { ⌜ (0 < size) × (32 * size ≤ length (now heap)) ⌝ }
+    ensures { λ r. ⌜ Dug (keyIn (now (heap .entry))) (keyIn (now (heap .exit))) size r ⌝ }
+{
+    let mut hole = 0;
+    while 4 * hole + 1 < size {
+        let child = least_child(heap, size, hole);
+        copy(heap, child, hole);
+        hole = child;
+    }
+    hole
+}
+
+// Moves the hole up until e fits into it, and puts e there.
+fn rise(heap: &mut [u8], size: usize, start: usize, e: Entry)
+    requires { ⌜ Hole (keyIn (now heap)) size start × Below (keyIn (now heap)) size start (keyOf e) ⌝ }
+    requires { ⌜ (start < size) × (32 * size ≤ length (now heap)) ⌝ }
+    ensures { λ _. ⌜ Risen (keyIn (now (heap .entry))) (keyIn (now (heap .exit))) size start (keyOf e) ⌝ }
+{
+    let mut hole = start;
+    while 0 < hole {
+        let parent = (hole - 1) / 4;
+        if less_than_at(heap, e, parent) {
+            copy(heap, parent, hole);
+            hole = parent;
+        } else {
+            store(heap, hole, e);
+            return;
+        }
+    }
+    store(heap, 0, e);
+}
+
+// Adds e to the entries that wait.
+pub fn push(heap: &mut [u8], size: usize, e: Entry)
+    requires { ⌜ Heap (keyIn (now heap)) size ⌝ }
+    requires { ⌜ 32 * (size + 1) ≤ length (now heap) ⌝ }
+    ensures { λ _. ⌜ Pushed (now (heap .entry)) (now (heap .exit)) size e ⌝ }
+{
+    rise(heap, size + 1, size, e);
+}
+
+// Takes the least of the entries that wait.
+pub fn pop(heap: &mut [u8], size: usize) -> Entry
+    requires { ⌜ Heap (keyIn (now heap)) size ⌝ }
+    requires { ⌜ (0 < size) × (32 * size ≤ length (now heap)) ⌝ }
+    ensures { λ r. ⌜ Popped (now (heap .entry)) (now (heap .exit)) size r ⌝ }
+{
+    let least = entry_at(heap, 0);
+    let rest = size - 1;
+    if 0 < rest {
+        let last = entry_at(heap, rest);
+        let hole = dig(heap, rest);
+        rise(heap, rest, hole, last);
+    }
+    least
+}
