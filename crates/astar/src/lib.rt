@@ -1,0 +1,126 @@
+// The limited A* search over lent bytes: the known cells in one buffer, a heap of waiting entries in another.
+ghost use mathlib.Core.Path.{_≡_};
+ghost use mathlib.Core.Bool.{true};
+ghost use mathlib.Core.List.{map};
+ghost use Prim.Native.Nat.{ℕ, _<_};
+ghost use lib.Ieee.{binary64, toBits};
+ghost use Rattle.refusal.specs.Table.{rawOf};
+ghost use Rattle.cell.specs.Cell.{distanceCells};
+ghost use Rattle.layer.specs.Layer.{isSound};
+ghost use Rattle.route.specs.Route.{costBetween};
+ghost use Rattle.known.specs.Known.{cellIn};
+ghost use Rattle.search.specs.Search.{plus, less, push, relax, relaxAll};
+ghost use Rattle.search.specs.Plan.{distanceBits};
+ghost use Rattle.astar.specs.State.{problemOf, stateIn, Cost, Good, Meets};
+ghost use Rattle.astar.specs.Estimate.{toldAhead, SoundAhead};
+use distance::DistanceAnswer;
+use known::Found;
+use refusal::Cell;
+use refusal::Refusal;
+use refusal::Room;
+use waiting::Entry;
+
+// What is searched, and with what room.
+pub struct Plan {
+    pub start: Cell,
+    pub goal: Cell,
+    pub known: usize,
+    pub waiting: usize,
+    pub limit: u64,
+    pub rule: u32,
+}
+
+// How many cells are known, how many entries wait, and how many cells are closed.
+pub struct Sizes {
+    pub known: usize,
+    pub waiting: usize,
+    pub count: u64,
+}
+
+// A search goes on, was refused, or has come to its goal.
+pub enum Step {
+    Going(Sizes),
+    Stopped(Refusal),
+    Arrived(Sizes),
+}
+
+// How far a cell is from the goal, by its bits.
+pub enum Estimate {
+    Bits(u64),
+    Refused(Refusal),
+}
+
+// ---- costs
+
+fn plus(a: u64, b: u64) -> u64
+    requires { ⌜ Cost a ⌝ }
+    requires { ⌜ Cost b ⌝ }
+    ensures { λ r. ⌜ r ≡ plus a b ⌝ }
+    ensures { λ r. ⌜ Cost r ⌝ }
+{
+    float::bits(float::value(a) + float::value(b))
+}
+
+fn less(a: u64, b: u64) -> bool
+    requires { ⌜ Cost a ⌝ }
+    requires { ⌜ Cost b ⌝ }
+    ensures { λ r. ⌜ r ≡ less a b ⌝ }
+{
+    float::value(a) < float::value(b)
+}
+
+fn cost(a: Cell, b: Cell) -> u64
+    ensures { λ r. ⌜ r ≡ toBits binary64 (costBetween a b) ⌝ }
+    ensures { λ r. ⌜ Cost r ⌝ }
+{
+    float::bits(route::step_cost(a, b))
+}
+
+fn ahead(c: Cell, goal: Cell) -> Estimate
+    ensures { λ r. ⌜ toldAhead r ≡ distanceBits (distanceCells c goal) ⌝ }
+    ensures { λ r. ⌜ SoundAhead r ⌝ }
+{
+    match cell::distance_to(c, goal) {
+        DistanceAnswer::Is(d) => Estimate::Bits(float::bits(d)),
+        DistanceAnswer::Refused(r) => Estimate::Refused(r),
+    }
+}
+
+// ---- one neighbour
+
+// A shorter way to a known cell, that of record i, from the cell of record `at`.
+fn renew(
+    workspace: &mut [u8],
+    heap: &mut [u8],
+    flags: &[u8],
+    count: usize,
+    plan: Plan,
+    sizes: Sizes,
+    at: usize,
+    i: usize,
+    g: u64,
+) -> Step
+    requires { ⌜ Good plan (now workspace) (now heap) sizes ⌝ }
+    requires { ⌜ Cost g ⌝ }
+    requires { ⌜ at < sizes .known ⌝ }
+    requires { ⌜ i < sizes .known ⌝ }
+    ensures { λ r. ⌜ Meets (problemOf plan (now (flags .entry)) count) plan (now (workspace .entry)) (now (heap .entry)) (now (workspace .exit)) (now (heap .exit)) r (push (problemOf plan (now (flags .entry)) count) (rawOf (cellIn (now (workspace .entry)) (plan .known) at)) (rawOf (cellIn (now (workspace .entry)) (plan .known) i)) g (stateIn plan (now (workspace .entry)) (now (heap .entry)) sizes) (distanceBits (distanceCells (cellIn (now (workspace .entry)) (plan .known) i) (plan .goal)))) ⌝ }
+{
+    let n = known::cell_at(workspace, plan.known, i);
+    match ahead(n, plan.goal) {
+        Estimate::Refused(r) => Step::Stopped(r),
+        Estimate::Bits(h) => {
+            if sizes.waiting >= plan.waiting {
+                return Step::Stopped(Refusal::NoRoom(Room::Waiting));
+            }
+            rows::lower(workspace, plan.known, sizes.known, i, g, at);
+            let f = plus(g, h);
+            waiting::push(heap, sizes.waiting, Entry { f, cell: n, g });
+            Step::Going(Sizes {
+                known: sizes.known,
+                waiting: sizes.waiting + 1,
+                count: sizes.count,
+            })
+        }
+    }
+}
