@@ -1,17 +1,13 @@
 -- What known's search answers, as the definition finds it. Assumes nothing.
-use mathlib.Core.Path.{_≡_, ap, _∙_}
 use mathlib.Core.List.{List}
-use mathlib.Core.Option.{some}
 use Prim.Native.Nat.{ℕ}
 use Rattle.refusal.specs.declared.Cell.{Cell}
-use Rattle.refusal.specs.Table.{rawOf}
 use Rattle.words.specs.Word.{Bytes}
 use Rattle.cell.specs.Laws.{Words}
 use Rattle.known.specs.Found.{Right}
 use Rattle.known.specs.declared.Found.{Found}
 use Rattle.known.specs.declared.Found.the-variants.{At, Nowhere}
-use Rattle.search.specs.Search.{find}
-use Rattle.rows.specs.Rows.{rowIn, rowsIn, Rows, Looked}
+use Rattle.rows.specs.Rows.{Rows, Looked}
 use Rattle.rows.specs.RowsLaws.{find-row, find-no-row}
 
 pub looked : (l : List ℕ) (room n : ℕ) (c : Cell) (r : Found) → Rows l room n → Bytes l → Words c → Right l room n c r → Looked l room n c r

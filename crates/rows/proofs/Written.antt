@@ -1,5 +1,5 @@
 -- A row written into a record: its fields are read back, and no cell, link, head or field of another record changes. Assumes nothing.
-use mathlib.Core.Path.{_≡_, refl, sym, ap, subst⁻¹, _∙_}
+use mathlib.Core.Path.{_≡_, sym, ap, subst⁻¹, _∙_}
 use mathlib.Core.Logic.{_≢_}
 use mathlib.Core.List.{List}
 use Prim.Native.Nat.{ℕ, _+_, _*_, _^_, _≤_, _<_}
@@ -133,7 +133,7 @@ module _ (l : List ℕ) (room i g before : ℕ) where
 
 -- ---- what it leaves of the rows
 
-module _ (l l′ : List ℕ) (room n i mark g before : ℕ) (rows : Rows l room n) (bytes : Bytes l) (below : i < n) (within : before < n) (wrote : Written l l′ room i mark g before) where
+module _ (l l′ : List ℕ) (room n i mark g before : ℕ) (rows : Rows l room n) (within : before < n) (wrote : Written l l′ room i mark g before) where
   back-kept : (j : ℕ) → j < n → beforeIn l′ room j < n
   back-kept j less = by-place (ℕ-discrete j i)
     where
@@ -168,13 +168,13 @@ module _ (l l′ : List ℕ) (room n i mark g before : ℕ) (rows : Rows l room 
 
 pub lowered : (l l′ : List ℕ) (room n i g before : ℕ) → Rows l room n → Bytes l → i < n → before < n → Written l l′ room i 0 g before → Changed l l′ room n n (put (rawOf (cellIn l room i)) g (rawOf (cellIn l room before)) (rowsIn l room n))
 lowered l l′ room n i g before rows bytes below within wrote =
-    changed l l′ room n i 0 g before rows bytes below within wrote (put (rawOf (cellIn l room i)) g (rawOf (cellIn l room before)) (rowsIn l room n))
-    (put-row l room n rows bytes i below l′ (row-kept l l′ room n i 0 g before rows bytes below within wrote) g (rawOf (cellIn l room before)) (row-new l l′ room n i 0 g before rows bytes below within wrote))
+    changed l l′ room n i 0 g before rows within wrote (put (rawOf (cellIn l room i)) g (rawOf (cellIn l room before)) (rowsIn l room n))
+    (put-row l room n rows bytes i below l′ (row-kept l l′ room n i 0 g before rows within wrote) g (rawOf (cellIn l room before)) (row-new l l′ room n i 0 g before rows within wrote))
 
 pub closed : (l l′ : List ℕ) (room n i : ℕ) → Rows l room n → Bytes l → i < n → Written l l′ room i 1 (gIn l room i) (beforeIn l room i) → Changed l l′ room n n (close (rawOf (cellIn l room i)) (rowsIn l room n))
 closed l l′ room n i rows bytes below wrote =
     let g = gIn l room i in
     let before = beforeIn l room i in
     let within = rows .back i below in
-    changed l l′ room n i 1 g before rows bytes below within wrote (close (rawOf (cellIn l room i)) (rowsIn l room n))
-    (close-row l room n rows bytes i below l′ (row-kept l l′ room n i 1 g before rows bytes below within wrote) (row-new l l′ room n i 1 g before rows bytes below within wrote))
+    changed l l′ room n i 1 g before rows within wrote (close (rawOf (cellIn l room i)) (rowsIn l room n))
+    (close-row l room n rows bytes i below l′ (row-kept l l′ room n i 1 g before rows within wrote) (row-new l l′ room n i 1 g before rows within wrote))
