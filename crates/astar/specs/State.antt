@@ -12,7 +12,7 @@ use Rattle.waiting.specs.Heap.{Heap}
 use Rattle.waiting.specs.Entries.{entryOf, keyIn}
 use Rattle.waiting.specs.Sorted.{sortedKeys}
 use Rattle.layer.specs.Layer.{rowsOf}
-use Rattle.search.specs.Search.{Problem, Entry, State, state, Flow, going, done, stopped, arrived}
+use Rattle.search.specs.Search.{Problem, Entry, State, state, Flow, going, done, stopped, arrived, run}
 use Rattle.search.specs.Plan.{planOf}
 use Rattle.search.specs.Counted.{closedIn}
 use Rattle.search.specs.WaitingLaws.{KnownCell}
@@ -75,3 +75,9 @@ pub record Meets (P : Problem) (p : Plan) (w h w′ h′ : List ℕ) (r : Step) 
   pub good : GoodStep p w′ h′ r
   pub workspace-length : length w′ ≡ length w
   pub heap-length : length h′ ≡ length h
+
+-- the code's last step is where the definition ends, after some pops
+pub record Ran (P : Problem) (p : Plan) (w h w′ h′ : List ℕ) (r : Step) (f : Flow) : Type 0 where
+  pub pops : ℕ
+  pub met : Meets P p w h w′ h′ r (run P pops f)
+  pub last : (z : Sizes) → r ≡ step.Going z → ⊥
