@@ -11,7 +11,7 @@ mod Kept
 mod Trails
 mod Besides
 mod Judged
-mod Counted
+pub mod Counted
 mod LargerRooms
 mod Shortages
 mod Refusals
