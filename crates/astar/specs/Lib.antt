@@ -1,3 +1,4 @@
 pub mod State
 pub mod Estimate
 pub mod CostLaws
+pub mod StateLaws
