@@ -89,3 +89,80 @@ fn ahead(c: Cell, goal: Cell) -> Estimate
         DistanceAnswer::Refused(r) => Estimate::Refused(r),
     }
 }
+
+// ---- one neighbour
+
+// A shorter way to a known cell, that of record i, from the cell of record `at`.
+fn renew(
+    workspace: &mut [u8],
+    heap: &mut [u8],
+    flags: &[u8],
+    count: usize,
+    plan: Plan,
+    sizes: Sizes,
+    at: usize,
+    i: usize,
+    g: u64,
+) -> Step
+    requires { ⌜ Good plan (now workspace) (now heap) sizes ⌝ }
+    requires { ⌜ Cost g ⌝ }
+    requires { ⌜ at < sizes .known ⌝ }
+    requires { ⌜ i < sizes .known ⌝ }
+    requires { ⌜ rowIn (now workspace) (plan .known) i .closed ≡ false ⌝ }
+    ensures { λ r. ⌜ Meets (problemOf plan (now (flags .entry)) count) plan (now (workspace .entry)) (now (heap .entry)) (now (workspace .exit)) (now (heap .exit)) r (push (problemOf plan (now (flags .entry)) count) (rawOf (cellIn (now (workspace .entry)) (plan .known) at)) (rawOf (cellIn (now (workspace .entry)) (plan .known) i)) g (stateIn plan (now (workspace .entry)) (now (heap .entry)) sizes) (distanceBits (distanceCells (cellIn (now (workspace .entry)) (plan .known) i) (plan .goal)))) ⌝ }
+{
+    let n = known::cell_at(workspace, plan.known, i);
+    match ahead(n, plan.goal) {
+        Estimate::Refused(r) => Step::Stopped(r),
+        Estimate::Bits(h) => {
+            if sizes.waiting >= plan.waiting {
+                return Step::Stopped(Refusal::NoRoom(Room::Waiting));
+            }
+            rows::lower(workspace, plan.known, sizes.known, i, g, at);
+            let f = plus(g, h);
+            waiting::push(heap, sizes.waiting, Entry { f, cell: n, g });
+            Step::Going(Sizes {
+                known: sizes.known,
+                waiting: sizes.waiting + 1,
+                count: sizes.count,
+            })
+        }
+    }
+}
+
+// A first way to a cell that is not known, from the cell of record `at`.
+fn fresh(
+    workspace: &mut [u8],
+    heap: &mut [u8],
+    flags: &[u8],
+    count: usize,
+    plan: Plan,
+    sizes: Sizes,
+    at: usize,
+    n: Cell,
+    g: u64,
+) -> Step
+    requires { ⌜ Good plan (now workspace) (now heap) sizes ⌝ }
+    requires { ⌜ Cost g ⌝ }
+    requires { ⌜ at < sizes .known ⌝ }
+    requires { ⌜ sizes .known < plan .known ⌝ }
+    requires { ⌜ ((j : ℕ) → j < sizes .known → cellIn (now workspace) (plan .known) j ≡ n → ⊥) ⌝ }
+    ensures { λ r. ⌜ Meets (problemOf plan (now (flags .entry)) count) plan (now (workspace .entry)) (now (heap .entry)) (now (workspace .exit)) (now (heap .exit)) r (push (problemOf plan (now (flags .entry)) count) (rawOf (cellIn (now (workspace .entry)) (plan .known) at)) (rawOf n) g (stateIn plan (now (workspace .entry)) (now (heap .entry)) sizes) (distanceBits (distanceCells n (plan .goal)))) ⌝ }
+{
+    match ahead(n, plan.goal) {
+        Estimate::Refused(r) => Step::Stopped(r),
+        Estimate::Bits(h) => {
+            if sizes.waiting >= plan.waiting {
+                return Step::Stopped(Refusal::NoRoom(Room::Waiting));
+            }
+            rows::append(workspace, plan.known, sizes.known, n, g, at);
+            let f = plus(g, h);
+            waiting::push(heap, sizes.waiting, Entry { f, cell: n, g });
+            Step::Going(Sizes {
+                known: sizes.known + 1,
+                waiting: sizes.waiting + 1,
+                count: sizes.count,
+            })
+        }
+    }
+}
