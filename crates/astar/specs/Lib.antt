@@ -2,3 +2,4 @@ pub mod State
 pub mod Estimate
 pub mod CostLaws
 pub mod StateLaws
+pub mod RelaxLaws

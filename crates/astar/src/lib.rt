@@ -166,3 +166,53 @@ fn fresh(
         }
     }
 }
+
+const INFINITY: u64 = 0x7FF0_0000_0000_0000;
+
+// One neighbour of the cell of record `at`, which has the cost g.
+fn relax(
+    workspace: &mut [u8],
+    heap: &mut [u8],
+    flags: &[u8],
+    count: usize,
+    plan: Plan,
+    sizes: Sizes,
+    at: usize,
+    g: u64,
+    n: Cell,
+) -> Step
+    requires { ⌜ Good plan (now workspace) (now heap) sizes ⌝ }
+    requires { ⌜ isSound 20 (now flags) count ≡ true ⌝ }
+    requires { ⌜ Cost g ⌝ }
+    requires { ⌜ at < sizes .known ⌝ }
+    ensures { λ r. ⌜ Meets (problemOf plan (now (flags .entry)) count) plan (now (workspace .entry)) (now (heap .entry)) (now (workspace .exit)) (now (heap .exit)) r (relax (problemOf plan (now (flags .entry)) count) (rawOf (cellIn (now (workspace .entry)) (plan .known) at)) g (rawOf n) (stateIn plan (now (workspace .entry)) (now (heap .entry)) sizes)) ⌝ }
+{
+    let c = known::cell_at(workspace, plan.known, at);
+    let t = plus(g, cost(c, n));
+    match rows::look(workspace, plan.known, sizes.known, n) {
+        Found::At(i) => {
+            if rows::is_closed(workspace, plan.known, sizes.known, i) {
+                return Step::Going(sizes);
+            }
+            if route::is_shut(flags, count, plan.rule, n) {
+                return Step::Going(sizes);
+            }
+            if less(t, rows::g_at(workspace, plan.known, sizes.known, i)) {
+                return renew(workspace, heap, flags, count, plan, sizes, at, i, t);
+            }
+            Step::Going(sizes)
+        }
+        Found::Nowhere => {
+            if route::is_shut(flags, count, plan.rule, n) {
+                return Step::Going(sizes);
+            }
+            if less(t, INFINITY) {
+                if sizes.known >= plan.known {
+                    return Step::Stopped(Refusal::NoRoom(Room::Known));
+                }
+                return fresh(workspace, heap, flags, count, plan, sizes, at, n, t);
+            }
+            Step::Going(sizes)
+        }
+    }
+}

@@ -7,9 +7,9 @@ pub mod Rooms
 mod Cases
 pub mod KnownLaws
 pub mod WaitingLaws
-mod Kept
+pub mod Kept
 mod Trails
-mod Besides
+pub mod Besides
 mod Judged
 pub mod Counted
 mod LargerRooms
