@@ -3,3 +3,4 @@ pub mod Estimate
 pub mod CostLaws
 pub mod StateLaws
 pub mod RelaxLaws
+pub mod AroundLaws

@@ -216,3 +216,36 @@ fn relax(
         }
     }
 }
+
+// One neighbour after the other.
+fn relax_all(
+    workspace: &mut [u8],
+    heap: &mut [u8],
+    flags: &[u8],
+    count: usize,
+    plan: Plan,
+    sizes: Sizes,
+    at: usize,
+    g: u64,
+    cells: [Cell; 14],
+) -> Step
+    requires { ⌜ Good plan (now workspace) (now heap) sizes ⌝ }
+    requires { ⌜ isSound 20 (now flags) count ≡ true ⌝ }
+    requires { ⌜ Cost g ⌝ }
+    requires { ⌜ at < sizes .known ⌝ }
+    ensures { λ r. ⌜ Meets (problemOf plan (now (flags .entry)) count) plan (now (workspace .entry)) (now (heap .entry)) (now (workspace .exit)) (now (heap .exit)) r (relaxAll (problemOf plan (now (flags .entry)) count) (rawOf (cellIn (now (workspace .entry)) (plan .known) at)) g (map rawOf cells) (stateIn plan (now (workspace .entry)) (now (heap .entry)) sizes)) ⌝ }
+{
+    let mut size = sizes;
+    let mut i = 0;
+    while i < 14 {
+        match relax(workspace, heap, flags, count, plan, size, at, g, cells[i]) {
+            Step::Going(z) => {
+                size = z;
+            }
+            Step::Stopped(r) => return Step::Stopped(r),
+            Step::Arrived(z) => return Step::Arrived(z),
+        }
+        i += 1;
+    }
+    Step::Going(size)
+}
