@@ -4,3 +4,4 @@ pub mod CostLaws
 pub mod StateLaws
 pub mod RelaxLaws
 pub mod AroundLaws
+pub mod EnterLaws

@@ -249,3 +249,43 @@ fn relax_all(
     }
     Step::Going(size)
 }
+
+// ---- one pop
+
+// The cell of record `at`, which was closed and counted and has the cost g: the limit, the goal, the neighbours.
+fn enter(
+    workspace: &mut [u8],
+    heap: &mut [u8],
+    flags: &[u8],
+    count: usize,
+    plan: Plan,
+    sizes: Sizes,
+    at: usize,
+    g: u64,
+) -> Step
+    requires { ⌜ Good plan (now workspace) (now heap) sizes ⌝ }
+    requires { ⌜ isSound 20 (now flags) count ≡ true ⌝ }
+    requires { ⌜ Cost g ⌝ }
+    requires { ⌜ at < sizes .known ⌝ }
+    ensures { λ r. ⌜ Meets (problemOf plan (now (flags .entry)) count) plan (now (workspace .entry)) (now (heap .entry)) (now (workspace .exit)) (now (heap .exit)) r (entered (problemOf plan (now (flags .entry)) count) (rawOf (cellIn (now (workspace .entry)) (plan .known) at)) g (stateIn plan (now (workspace .entry)) (now (heap .entry)) sizes)) ⌝ }
+{
+    if plan.limit < sizes.count {
+        return Step::Stopped(Refusal::SearchLimitExceeded(Spent {
+            expansions: sizes.count,
+            limit: plan.limit,
+        }));
+    }
+    let c = known::cell_at(workspace, plan.known, at);
+    if cell::same(c, plan.goal) {
+        return Step::Arrived(sizes);
+    }
+    let near = cell::get_neighbors(c);
+    let outcome = near.outcome;
+    match outcome {
+        Outcome::Refused(r) => Step::Stopped(r),
+        Outcome::Answered => {
+            let cells = near.cells;
+            relax_all(workspace, heap, flags, count, plan, sizes, at, g, cells)
+        }
+    }
+}
