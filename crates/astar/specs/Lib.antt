@@ -5,3 +5,4 @@ pub mod StateLaws
 pub mod RelaxLaws
 pub mod AroundLaws
 pub mod EnterLaws
+pub mod AdvanceLaws

@@ -83,7 +83,7 @@ length-entries h n = length-map (sortedKeys h n) entryWith ∙ length-sortedKeys
 
 -- ---- the costs of all rows
 
-either : (Q : List Row → Type 0) (b : Bool) (k l : List Row) → Q k → Q l → Q (cond b k l)
+pub either : (Q : List Row → Type 0) (b : Bool) (k l : List Row) → Q k → Q l → Q (cond b k l)
 either Q true k l h i = h
 either Q false k l h i = i
 
@@ -104,14 +104,14 @@ module _ (Q : Row → Type 0) where
   each-put c g b [] h q = (q, tt)
   each-put c g b (e ∷ es) h q = either (Each Q) (eqb c (e .cell)) (row c g b false ∷ es) (e ∷ put c g b es) (q, h .1) (h .0, each-put c g b es (h .1) q)
 
-abbrev CostRow : Row → Type 0
+abbrev pub CostRow : Row → Type 0
 CostRow r = Cost (r .g)
 
-costs-each : (w : List ℕ) (room n : ℕ) → ((i : ℕ) → i < n → Cost (gIn w room i)) → Each CostRow (rowsIn w room n)
+pub costs-each : (w : List ℕ) (room n : ℕ) → ((i : ℕ) → i < n → Cost (gIn w room i)) → Each CostRow (rowsIn w room n)
 unfolding rowsIn rowIn
 costs-each w room n f = each-from CostRow (rowIn w room) 0 n (λ j after below. f j (omega arith))
 
-each-costs : (w : List ℕ) (room n : ℕ) → Each CostRow (rowsIn w room n) → (i : ℕ) → i < n → Cost (gIn w room i)
+pub each-costs : (w : List ℕ) (room n : ℕ) → Each CostRow (rowsIn w room n) → (i : ℕ) → i < n → Cost (gIn w room i)
 unfolding rowsIn rowIn
 each-costs w room n h i below = let place : 0 + i ≡ i = omega arith in subst (λ (k : ℕ). Cost (gIn w room k)) place (from-each CostRow (rowIn w room) 0 n h i below)
 

@@ -289,3 +289,47 @@ fn enter(
         }
     }
 }
+
+// The first of the entries that wait: skipped where its cell is closed, else the cell is closed and counted.
+fn advance(
+    workspace: &mut [u8],
+    heap: &mut [u8],
+    flags: &[u8],
+    count: usize,
+    plan: Plan,
+    sizes: Sizes,
+) -> Step
+    requires { ⌜ Good plan (now workspace) (now heap) sizes ⌝ }
+    requires { ⌜ isSound 20 (now flags) count ≡ true ⌝ }
+    ensures { λ r. ⌜ Meets (problemOf plan (now (flags .entry)) count) plan (now (workspace .entry)) (now (heap .entry)) (now (workspace .exit)) (now (heap .exit)) r (step (problemOf plan (now (flags .entry)) count) (stateIn plan (now (workspace .entry)) (now (heap .entry)) sizes)) ⌝ }
+{
+    if sizes.waiting == 0 {
+        let start = plan.start;
+        let goal = plan.goal;
+        return Step::Stopped(Refusal::NoPathFound(Ends { start, goal }));
+    }
+    let first = waiting::pop(heap, sizes.waiting);
+    let left = sizes.waiting - 1;
+    let c = first.cell;
+    match rows::look(workspace, plan.known, sizes.known, c) {
+        Found::At(i) => {
+            if rows::is_closed(workspace, plan.known, sizes.known, i) {
+                return Step::Going(Sizes {
+                    known: sizes.known,
+                    waiting: left,
+                    count: sizes.count,
+                });
+            }
+            let g = rows::g_at(workspace, plan.known, sizes.known, i);
+            rows::close_at(workspace, plan.known, sizes.known, i);
+            let closed = Sizes {
+                known: sizes.known,
+                waiting: left,
+                count: sizes.count + 1,
+            };
+            enter(workspace, heap, flags, count, plan, closed, i, g)
+        }
+        // Every cell that waits is known.
+        Found::Nowhere => Step::Going(sizes),
+    }
+}
