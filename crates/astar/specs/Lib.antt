@@ -6,3 +6,4 @@ pub mod RelaxLaws
 pub mod AroundLaws
 pub mod EnterLaws
 pub mod AdvanceLaws
+pub mod RunLaws

@@ -333,3 +333,26 @@ fn advance(
         Found::Nowhere => Step::Going(sizes),
     }
 }
+
+// Pop after pop, to the end.
+fn run(
+    workspace: &mut [u8],
+    heap: &mut [u8],
+    flags: &[u8],
+    count: usize,
+    plan: Plan,
+    sizes: Sizes,
+) -> Step
+    requires { ⌜ Good plan (now workspace) (now heap) sizes ⌝ }
+    requires { ⌜ isSound 20 (now flags) count ≡ true ⌝ }
+    ensures { λ r. ⌜ Ran (problemOf plan (now (flags .entry)) count) plan (now (workspace .entry)) (now (heap .entry)) (now (workspace .exit)) (now (heap .exit)) r (going (stateIn plan (now (workspace .entry)) (now (heap .entry)) sizes)) ⌝ }
+{
+    let mut size = sizes;
+    loop {
+        let r = advance(workspace, heap, flags, count, plan, size);
+        let Step::Going(z) = r else {
+            return r;
+        };
+        size = z;
+    }
+}
