@@ -7,3 +7,4 @@ pub mod AroundLaws
 pub mod EnterLaws
 pub mod AdvanceLaws
 pub mod RunLaws
+pub mod Answer

@@ -14,6 +14,9 @@ ghost use Rattle.search.specs.Search.{going, plus, less, push, relax, relaxAll,
 ghost use Rattle.search.specs.Plan.{distanceBits};
 ghost use Rattle.astar.specs.State.{problemOf, stateIn, Cost, Good, Meets, Ran};
 ghost use Rattle.astar.specs.Estimate.{toldAhead, SoundAhead};
+
+pub mod way;
+
 use distance::DistanceAnswer;
 use known::Found;
 use refusal::Cell;
@@ -23,6 +26,18 @@ use refusal::Refusal;
 use refusal::Room;
 use refusal::Spent;
 use waiting::Entry;
+
+// A route at the front of the output: how many cells it has, the bits of its cost, and the cells that were closed to find it.
+pub struct Route {
+    pub cells: usize,
+    pub cost: u64,
+    pub expansions: u64,
+}
+
+pub enum SearchAnswer {
+    Found(Route),
+    Refused(Refusal),
+}
 
 // What is searched, and with what room.
 pub struct Plan {
