@@ -1,7 +1,7 @@
 -- The state of a search, read off its two buffers: the rows of the known cells in one, the waiting entries in the other, and beside them three numbers. What each function of the code
 -- leaves and answers is a step of the definition from the state that the bytes held. Definitions only. Assumes nothing.
 use mathlib.Core.Path.{_≡_}
-use mathlib.Core.Bool.{false}
+use mathlib.Core.Bool.{true, false}
 use mathlib.Core.List.{List, map}
 use Prim.Native.Nat.{ℕ, _*_, _^_, _≤_, _<_}
 use lib.Ieee.{binary64, nanBits}
@@ -12,7 +12,7 @@ use Rattle.waiting.specs.Heap.{Heap}
 use Rattle.waiting.specs.Entries.{entryOf, keyIn}
 use Rattle.waiting.specs.Sorted.{sortedKeys}
 use Rattle.layer.specs.Layer.{rowsOf}
-use Rattle.search.specs.Search.{Problem, Entry, State, state, Flow, going, done, stopped, arrived, run}
+use Rattle.search.specs.Search.{Problem, Entry, State, state, Flow, going, done, stopped, arrived, run, find, isKnown}
 use Rattle.search.specs.Plan.{planOf}
 use Rattle.search.specs.Counted.{closedIn}
 use Rattle.search.specs.WaitingLaws.{KnownCell}
@@ -67,7 +67,7 @@ flowIn P p w h (step.Arrived z) = done (arrived P (stateIn p w h z))
 abbrev pub GoodStep : Plan → List ℕ → List ℕ → Step → Type 0
 GoodStep p w h (step.Going z) = Good p w h z
 GoodStep p w h (step.Stopped r) = Unit {0}
-GoodStep p w h (step.Arrived z) = Good p w h z
+GoodStep p w h (step.Arrived z) = Good p w h z × (isKnown (find (rawOf (p .goal)) (rowsIn w (p .known) (z .known))) ≡ true)
 
 -- from the buffers w and h, a step of the code came to w′ and h′
 pub record Meets (P : Problem) (p : Plan) (w h w′ h′ : List ℕ) (r : Step) (f : Flow) : Type 0 where

@@ -16,6 +16,7 @@ ghost use Rattle.astar.specs.State.{problemOf, stateIn, Cost, Good, Meet
 ghost use Rattle.astar.specs.Estimate.{toldAhead, SoundAhead};
 
 pub mod way;
+pub mod whole;
 
 use distance::DistanceAnswer;
 use known::Found;
