@@ -1,13 +1,12 @@
 -- One pop: the first of the entries that wait is skipped, or its cell is closed, counted and entered. Assumes nothing.
 use mathlib.Core.Path.{_≡_, refl, sym, ap, subst, _∙_}
-use mathlib.Core.Bool.{Bool, true, false, cond, true≢false}
+use mathlib.Core.Bool.{true, false, true≢false}
 use mathlib.Core.List.{List, [], _∷_, map}
 use mathlib.Core.Option.{none, some}
 use Prim.Native.Nat.{ℕ, suc, _+_, _-_, _≤_, _<_}
 use native.Mathlib.Numerals.{add-one}
 use native.Mathlib.Omega.{arith}
 use lib.Dec.{eqb}
-use lib.ListN.{length}
 use Rattle.refusal.specs.declared.Cell.{Cell}
 use Rattle.refusal.specs.declared.Refusal.the-variants.{NoPathFound}
 use Rattle.refusal.specs.Table.{rawOf}
@@ -17,7 +16,7 @@ use Rattle.waiting.specs.Sorted.{sortedKeys}
 use Rattle.waiting.specs.Steps.{Popped}
 use Rattle.waiting.specs.Laws.{empty-keys}
 use Rattle.known.specs.Known.{cellIn}
-use Rattle.search.specs.Search.{Problem, Row, Entry, State, state, Flow, going, stopped, find, row, close, isClosed, isKnown, gOf, entered, popped, next, step}
+use Rattle.search.specs.Search.{Problem, Row, Entry, State, state, going, find, row, close, isClosed, isKnown, gOf, entered, popped, next, step}
 use Rattle.search.specs.Plan.{planOf}
 use Rattle.search.specs.Counted.{closedIn, closed-at-most, closed-close}
 use Rattle.search.specs.WaitingLaws.{KnownCell, waits-close}

@@ -12,8 +12,8 @@ use borrow.Author.Tests.{eqb-true}
 use Rattle.refusal.specs.declared.Cell.{Cell}
 use Rattle.refusal.specs.Table.{rawOf}
 use Rattle.known.specs.Known.{cellIn}
-use Rattle.search.specs.Search.{Problem, Row, State, Result, Flow, going, done, andThen, row, put, plus, pushed, relax, relaxAll}
-use Rattle.search.specs.Kept.{Holding, Unfound, Lowered, HasRoom, relax-keeps}
+use Rattle.search.specs.Search.{Problem, Row, State, Result, Flow, done, andThen, row, put, plus, relax, relaxAll}
+use Rattle.search.specs.Kept.{Holding, Unfound, relax-keeps}
 use Rattle.rows.specs.Rows.{rowIn, rowsFrom, rowsIn}
 use Rattle.astar.specs.declared.Plan.{Plan}
 use Rattle.astar.specs.declared.Sizes.{Sizes}

@@ -17,13 +17,12 @@ use Rattle.lattice.specs.Lattice.{parityOf, isOdd}
 use Rattle.root.specs.declared.Root.{Root}
 use Rattle.root.specs.declared.Root.the-variants as root
 use Rattle.root.specs.Root.{rootOf, rootWhole, signif, shift}
-use Rattle.distance.specs.declared.DistanceAnswer.{DistanceAnswer}
 use Rattle.distance.specs.declared.DistanceAnswer.the-variants as distance
 use Rattle.distance.specs.Distance.{differencesFit, squaredDistance, rooted, distanceIn, distanceBy, distanceOf}
 use Rattle.distance.specs.Steps.{rootThree, twoFloat}
 use Rattle.cell.specs.Cell.{xOf}
 use Rattle.route.specs.Route.{costBetween}
-use Rattle.search.specs.Search.{plus, less, is, refused}
+use Rattle.search.specs.Search.{plus, less, is}
 use Rattle.refusal.specs.declared.Refusal.{Refusal}
 use Rattle.search.specs.Plan.{distanceBits}
 use Rattle.astar.specs.declared.Estimate.the-variants as estimate

@@ -1,6 +1,6 @@
 -- A cell that was closed and counted: the limit, the goal, the neighbours. Assumes nothing.
 use mathlib.Core.Path.{_≡_, refl, sym, ap, subst, _∙_}
-use mathlib.Core.Bool.{Bool, true, false, cond}
+use mathlib.Core.Bool.{Bool, true, false}
 use mathlib.Core.List.{List, map}
 use Prim.Native.Nat.{ℕ, _≤_, _<_}
 use lib.Dec.{ltb, eqb}
@@ -15,7 +15,7 @@ use Rattle.cell.specs.declared.Neighbors.{Neighbors}
 use Rattle.cell.specs.Cell.{neighborsOf}
 use Rattle.cell.specs.Laws.{Words}
 use Rattle.known.specs.Known.{cellIn}
-use Rattle.search.specs.Search.{Problem, Told, is, refused, State, Flow, done, stopped, relaxAll, around, arrived, entered}
+use Rattle.search.specs.Search.{Problem, State, done, stopped, relaxAll, around, arrived, entered}
 use Rattle.search.specs.Plan.{planOf, nearBy}
 use Rattle.search.specs.Besides.{cell-raw}
 use Rattle.astar.specs.declared.Plan.{Plan}

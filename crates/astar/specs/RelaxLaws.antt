@@ -1,10 +1,10 @@
 -- One neighbour of a cell: the cases of the definition, and what the code does in each. Assumes nothing.
 use mathlib.Core.Path.{_≡_, refl, sym, ap, subst, _∙_}
-use mathlib.Core.Bool.{Bool, true, false, cond, _||_}
+use mathlib.Core.Bool.{true, false}
 use mathlib.Core.List.{List}
 use mathlib.Core.Option.{Option, none, some}
 use Prim.Native.Nat.{ℕ, _≤_, _<_}
-use lib.Dec.{ltb, lit<}
+use lib.Dec.{lit<}
 use lib.Ieee.{binary64, nanBits, toBits}
 use lib.ListN.{length}
 use borrow.Author.Tests.{lt-ltb, le-ltb}
@@ -17,10 +17,10 @@ use Rattle.cell.specs.Laws.{Words}
 use Rattle.layer.specs.Layer.{rowsOf}
 use Rattle.route.specs.Route.{costBetween, isShut}
 use Rattle.known.specs.Known.{cellIn}
-use Rattle.search.specs.Search.{Problem, Row, State, Flow, going, stopped, find, isClosed, isKnown, gOf, plus, less, push, lower, tried, relax}
+use Rattle.search.specs.Search.{Problem, Row, State, Flow, going, stopped, find, isClosed, gOf, plus, less, push, lower, tried, relax}
 use Rattle.search.specs.Plan.{planOf, distanceBits}
 use Rattle.search.specs.Besides.{cell-raw}
-use Rattle.rows.specs.Rows.{gIn, rowIn, rowsIn}
+use Rattle.rows.specs.Rows.{rowIn, rowsIn}
 use Rattle.rows.specs.RowsLaws.{length-rows}
 use Rattle.astar.specs.declared.Plan.{Plan}
 use Rattle.astar.specs.declared.Sizes.{Sizes}

@@ -1,8 +1,7 @@
 -- Pop after pop: what the definition counts as left falls with each. Assumes nothing.
 use mathlib.Core.Path.{_≡_, refl, sym, ap, subst, _∙_}
 use mathlib.Core.List.{List}
-use Prim.Native.Nat.{ℕ, zero, suc, _+_, _≤_, _<_}
-use native.Mathlib.Omega.{arith}
+use Prim.Native.Nat.{ℕ, _+_, _≤_, _<_}
 use lib.ListN.{length}
 use Rattle.search.specs.Search.{going, step, run}
 use Rattle.search.specs.Plan.{planOf}

@@ -20,7 +20,7 @@ use Rattle.waiting.specs.Entries.{entryOf, EntryWords}
 use Rattle.waiting.specs.Sorted.{insertKey, sortedKeys}
 use Rattle.waiting.specs.Steps.{Pushed, Popped}
 use Rattle.waiting.specs.Laws.{length-sortedKeys, key-words}
-use Rattle.search.specs.Search.{Problem, Told, is, refused, Row, Entry, State, state, Flow, going, stopped, find, row, put, isClosed, plus, keyOf, insert, pushed, push}
+use Rattle.search.specs.Search.{Problem, Told, is, refused, Row, Entry, state, Flow, going, stopped, find, row, put, isClosed, plus, keyOf, insert, pushed, push}
 use Rattle.search.specs.Counted.{closedIn, closed-put}
 use Rattle.search.specs.WaitingLaws.{KnownCell, waits-put}
 use Rattle.rows.specs.Rows.{gIn, rowIn, rowsFrom, rowsIn, Changed}
@@ -32,7 +32,6 @@ use Rattle.cell.specs.Cell.{distanceCells}
 use Rattle.search.specs.Plan.{distanceBits, planOf}
 use Rattle.astar.specs.declared.Plan.{Plan}
 use Rattle.astar.specs.declared.Sizes.{Sizes}
-use Rattle.astar.specs.declared.Step.{Step}
 use Rattle.astar.specs.declared.Step.the-variants as step
 use Rattle.astar.specs.State.{entryWith, entriesIn, stateIn, problemOf, Cost, Good, Meets}
 
