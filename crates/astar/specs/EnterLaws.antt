@@ -4,7 +4,7 @@ use mathlib.Core.Bool.{Bool, true, false}
 use mathlib.Core.List.{List, map}
 use Prim.Native.Nat.{ℕ, _≤_, _<_}
 use lib.Dec.{ltb, eqb}
-use borrow.Author.Tests.{lt-ltb, le-ltb}
+use borrow.Author.Tests.{lt-ltb, le-ltb, eqb-true}
 use Rattle.refusal.specs.declared.Cell.{Cell}
 use Rattle.refusal.specs.declared.Refusal.{Refusal}
 use Rattle.refusal.specs.declared.Refusal.the-variants.{SearchLimitExceeded}
@@ -14,8 +14,11 @@ use Rattle.refusal.specs.Table.{rawOf}
 use Rattle.cell.specs.declared.Neighbors.{Neighbors}
 use Rattle.cell.specs.Cell.{neighborsOf}
 use Rattle.cell.specs.Laws.{Words}
+use Rattle.words.specs.Word.{Bytes}
 use Rattle.known.specs.Known.{cellIn}
-use Rattle.search.specs.Search.{Problem, State, done, stopped, relaxAll, around, arrived, entered}
+use Rattle.rows.specs.Rows.{rowsIn}
+use Rattle.rows.specs.RowsLaws.{find-row}
+use Rattle.search.specs.Search.{Problem, State, done, stopped, find, isKnown, relaxAll, around, arrived, entered}
 use Rattle.search.specs.Plan.{planOf, nearBy}
 use Rattle.search.specs.Besides.{cell-raw}
 use Rattle.astar.specs.declared.Plan.{Plan}
@@ -64,8 +67,17 @@ module _ (p : Plan) (flags w h : List ℕ) (count : ℕ) (z : Sizes) (at g : ℕ
     unfolding planOf
     goal-is e = ap (λ (a : Cell). eqb (rawOf a) (rawOf (p .goal))) (sym same) ∙ e
 
-    pub arrived-meets : Good p w h z → eqb (rawOf d) (rawOf (p .goal)) ≡ true → Meets P p w h w h (step.Arrived z) (entered P c g s)
-    arrived-meets good e = record { same = sym (entered-goal P c g s in-limit (goal-is e)); good = good; workspace-length = refl; heap-length = refl }
+    -- the goal is the cell of a record
+    pub arrived-meets : Bytes w → at < z .known → Good p w h z → eqb (rawOf d) (rawOf (p .goal)) ≡ true → Meets P p w h w h (step.Arrived z) (entered P c g s)
+    arrived-meets bytes below good e =
+        let goal : rawOf (p .goal) ≡ c = sym (eqb-true (rawOf d) (rawOf (p .goal)) e) ∙ ap rawOf same in
+        let rows = rowsIn w (p .known) (z .known) in
+        record {
+          same = sym (entered-goal P c g s in-limit (goal-is e));
+          good = (good, ap (λ (k : ℕ). isKnown (find k rows)) goal ∙ ap isKnown (find-row w (p .known) (z .known) (good .rows) bytes at below));
+          workspace-length = refl;
+          heap-length = refl;
+        }
 
     module _ (words : Words (cellIn w (p .known) at)) (elsewhere : eqb (rawOf d) (rawOf (p .goal)) ≡ false) (x : Neighbors) (e : x ≡ neighborsOf d) where
       near-is : (o : Outcome) → x .outcome ≡ o → P .near c ≡ nearBy o (x .cells)

@@ -9,3 +9,6 @@ pub mod AdvanceLaws
 pub mod RunLaws
 pub mod Answer
 pub mod Call
+pub mod BeginLaws
+pub mod CallLaws
+pub mod EndLaws

@@ -137,13 +137,13 @@ module _ (p : Plan) (w h w′ h′ : List ℕ) (z : Sizes) (known f g b : ℕ) (
     pub changed : Changed w w′ (p .known) (z .known) known (put (rawOf n) g b rows)
     pub push : Pushed h h′ (z .waiting) (entryTo f n g)
 
-  entered-entries : Entered → entriesIn h′ (z .waiting + 1) ≡ insert (entryFrom (entryTo f n g)) (entriesIn h (z .waiting))
+  pub entered-entries : Entered → entriesIn h′ (z .waiting + 1) ≡ insert (entryFrom (entryTo f n g)) (entriesIn h (z .waiting))
   entered-entries e =
       let small = e .f-cost .positive in
       let less = e .g-cost .positive in
       entries-pushed h h′ (z .waiting) (entryTo f n g) (record { f-word = omega arith; cell-words = e .words; g-word = omega arith }) (e .push)
 
-  entered-good : Entered → Good p w′ h′ (sizesOf known (z .waiting + 1) (z .count))
+  pub entered-good : Entered → Good p w′ h′ (sizesOf known (z .waiting + 1) (z .count))
   entered-good e =
       let few : z .waiting + 1 ≤ p .waiting = omega (arith, e .room) in
       record {

@@ -11,7 +11,7 @@ ghost use Rattle.layer.specs.Changes.{changed};
 ghost use Rattle.known.specs.Known.{Roomy};
 ghost use Rattle.search.specs.Search.{begin, run, found};
 ghost use Rattle.search.specs.Plan.{distanceBits, resultOf, popsFor, searchOf};
-ghost use Rattle.astar.specs.State.{problemOf, Meets};
+ghost use Rattle.astar.specs.State.{problemOf, Meets, Ran};
 ghost use Rattle.astar.specs.Answer.{answeredIn, resultShown, Ended};
 ghost use Rattle.astar.specs.Call.{isRoom, hasRooms};
 use crate::Estimate;
@@ -60,6 +60,27 @@ fn begin(workspace: &mut [u8], heap: &mut [u8], flags: &[u8], count: usize, plan
     }
 }
 
+// From the start to the last step.
+fn run_from_start(
+    workspace: &mut [u8],
+    heap: &mut [u8],
+    flags: &[u8],
+    count: usize,
+    plan: Plan,
+) -> Step
+    requires { ⌜ Roomy (now workspace) (plan .known) ⌝ }
+    requires { ⌜ (0 < plan .waiting) × (plan .waiting ≤ 65536) ⌝ }
+    requires { ⌜ 32 * plan .waiting ≤ length (now heap) ⌝ }
+    requires { ⌜ isSound 20 (now flags) count ≡ true ⌝ }
+    ensures { λ r. ⌜ Ran (problemOf plan (now (flags .entry)) count) plan (now (workspace .entry)) (now (heap .entry)) (now (workspace .exit)) (now (heap .exit)) r (begin (problemOf plan (now (flags .entry)) count) (distanceBits (distanceCells (plan .start) (plan .goal)))) ⌝ }
+{
+    let first = begin(workspace, heap, flags, count, plan);
+    let Step::Going(sizes) = first else {
+        return first;
+    };
+    crate::run(workspace, heap, flags, count, plan, sizes)
+}
+
 // What a search that has ended says.
 fn end(
     workspace: &[u8],
@@ -104,11 +125,7 @@ fn between(
     ensures { λ r. ⌜ length (now (workspace .exit)) ≡ length (now (workspace .entry)) ⌝ }
     ensures { λ r. ⌜ length (now (heap .exit)) ≡ length (now (heap .entry)) ⌝ }
 {
-    let first = begin(workspace, heap, flags, count, plan);
-    let last = match first {
-        Step::Going(sizes) => crate::run(workspace, heap, flags, count, plan, sizes),
-        _ => first,
-    };
+    let last = run_from_start(workspace, heap, flags, count, plan);
     end(workspace, flags, count, plan, last, output)
 }
 

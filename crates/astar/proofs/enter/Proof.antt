@@ -19,7 +19,7 @@ same-length : tie.Need-same-length
 same-length c = search needs
 
 returns-2 : tie.Need-returns-2
-returns-2 c = arrived-meets ((c .before .before .before .before .before .before .before .before .before .before .args) .plan) _ _ _ _ ((c .before .before .before .before .before .before .before .before .before .before .args) .sizes) ((c .before .before .before .before .before .before .before .before .before .before .args) .at) ((c .before .before .before .before .before .before .before .before .before .before .args) .g) ((c .before .before .before .before .if1) .left) _ ((c .before .before .cell-at) .ensures) ((c .before .before .before .before .before .before .before .before .before .before .pre) .0) (sym ((c .before .same) .ensures) ∙ (c .if2) .taken)
+returns-2 c = arrived-meets ((c .before .before .before .before .before .before .before .before .before .before .args) .plan) _ _ _ _ ((c .before .before .before .before .before .before .before .before .before .before .args) .sizes) ((c .before .before .before .before .before .before .before .before .before .before .args) .at) ((c .before .before .before .before .before .before .before .before .before .before .args) .g) ((c .before .before .before .before .if1) .left) _ ((c .before .before .cell-at) .ensures) (λ k. omega (arith, (c .before .before .before .before .before .before .before .before .before .slice-known) .given k)) ((c .before .before .before .before .before .before .before .before .before .before .pre) .1 .1 .1) ((c .before .before .before .before .before .before .before .before .before .before .pre) .0) (sym ((c .before .same) .ensures) ∙ (c .if2) .taken)
 
 get-neighbors-requires : tie.Need-get-neighbors-requires
 get-neighbors-requires c κs = search needs

@@ -1,27 +1,12 @@
 -- The invariant: so many pops were made. What is left falls.
-use mathlib.Core.Path.{_≡_, _∙_}
-use mathlib.Core.Logic.{⊎-elim}
-use mathlib.Core.List.{[], _∷_}
-use Prim.Native.Nat.{ℕ}
-use native.Mathlib.Omega.{arith}
-use types.Run.{OneOf}
-use denote.Enum.Declared.{tagOf}
+use mathlib.Core.Path.{_∙_}
 use borrow.Author.Needs.{needs}
 use Rattle.search.specs.Ending.{left}
-use Rattle.astar.proofs.Step.{the-type}
-use Rattle.astar.specs.declared.Sizes.{Sizes}
-use Rattle.astar.specs.declared.Step.{Step}
-use Rattle.astar.specs.declared.Step.the-variants as steps
 use Rattle.astar.specs.State.{problemOf, stateIn}
 use Rattle.astar.specs.RunLaws.{Running, run-start, run-next, run-falls, run-ends}
+use Rattle.astar.proofs.Last.{ended}
 use Rattle.astar.proofs.run.Statement.{statement}
 use Rattle.astar.proofs.run.Tie as tie
-
--- a step whose tag is not the first does not go on
-ended : (r : Step) → OneOf (1 ∷ 2 ∷ []) (tagOf the-type r) → (x : Sizes) → r ≡ steps.Going x → ⊥
-ended (steps.Going z) h x e = ⊎-elim (λ e. omega arith) (λ e. omega arith) h
-ended (steps.Stopped q) h x e = let z : _≡_ {A = ℕ} 0 1 = cc in omega arith
-ended (steps.Arrived y) h x e = let z : _≡_ {A = ℕ} 0 1 = cc in omega arith
 
 abbrev Inv-loop : tie.InvT-loop
 Inv-loop workspace₀ heap₀ flags count plan size₀ workspace heap size =
