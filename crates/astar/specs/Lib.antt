@@ -8,3 +8,4 @@ pub mod EnterLaws
 pub mod AdvanceLaws
 pub mod RunLaws
 pub mod Answer
+pub mod WayLaws
