@@ -12,3 +12,4 @@ pub mod Call
 pub mod BeginLaws
 pub mod CallLaws
 pub mod EndLaws
+pub mod WayLaws

@@ -2,10 +2,8 @@
 ghost use mathlib.Core.Path.{_≡_};
 ghost use Prim.Native.Nat.{_≤_, _<_};
 ghost use lib.ListN.{length};
-ghost use Rattle.refusal.specs.Table.{rawOf};
 ghost use Rattle.layer.specs.Changes.{changed};
 ghost use Rattle.listing.specs.Listing.{roomIn, cellsLaid};
-ghost use Rattle.known.specs.Known.{cellIn};
 ghost use Rattle.search.specs.Search.{found};
 ghost use Rattle.rows.specs.Rows.{rowIn, Rows};
 ghost use Rattle.astar.specs.Answer.{answeredIn, wayTo, cellsTo};
