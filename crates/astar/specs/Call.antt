@@ -7,7 +7,7 @@ use mathlib.Core.List.{List}
 use Prim.Native.Nat.{ℕ, _+_, _*_}
 use lib.Dec.{leb, ltb}
 use lib.ListN.{length, replicate}
-use Rattle.refusal.specs.declared.Refusal.{Refusal}
+use Rattle.refusal.specs.declared.Cell.{Cell}
 use Rattle.refusal.specs.declared.Refusal.the-variants.{BadWorkspace, BadLayer, BadRule}
 use Rattle.cell.specs.declared.CellAnswer.{CellAnswer}
 use Rattle.cell.specs.declared.CellAnswer.the-variants as cell
@@ -40,11 +40,14 @@ unfoldable pub hasRooms : ℕ → ℕ → List ℕ → List ℕ → Bool
 hasRooms known waiting w h = (isRoom known && isRoom waiting) && (leb (44 * known + 64) (length w) && leb (32 * waiting) (length h))
 
 -- BadLayer, BadRule, then the search
+abbrev pub resultUnder : Cell → Cell → ℕ → ℕ → ℕ → ℕ → List ℕ → ℕ → Result
+resultUnder s e known waiting limit rule flags n =
+    cond (isSound 20 flags n) (cond (ltb rule 2) (searchOf s e known waiting limit rule (rowsOf 20 flags n)) (none-found BadRule)) (none-found BadLayer)
+
 abbrev pub resultIn : CellAnswer → CellAnswer → ℕ → ℕ → ℕ → ℕ → List ℕ → ℕ → Result
 resultIn (cell.Refused r) e known waiting limit rule flags n = none-found r
 resultIn (cell.Is s) (cell.Refused r) known waiting limit rule flags n = none-found r
-resultIn (cell.Is s) (cell.Is e) known waiting limit rule flags n =
-    cond (isSound 20 flags n) (cond (ltb rule 2) (searchOf s e known waiting limit rule (rowsOf 20 flags n)) (none-found BadRule)) (none-found BadLayer)
+resultIn (cell.Is s) (cell.Is e) known waiting limit rule flags n = resultUnder s e known waiting limit rule flags n
 
 abbrev pub wiped : Changed SearchAnswer → List ℕ → List ℕ → Searched
 wiped a w h = searched (a .said) (zeros w) (zeros h) (a .bytes)

@@ -2,16 +2,18 @@
 use mathlib.Core.Path.{_≡_, refl, sym, ap, _∙_}
 use mathlib.Core.Bool.{true, true≢false}
 use mathlib.Core.List.{List, []}
-use mathlib.Core.Option.{none, some}
+use mathlib.Core.Option.{Option, none, some}
 use Prim.Native.Nat.{ℕ, _≤_, _<_}
 use native.Mathlib.Omega.{arith}
 use Rattle.refusal.specs.declared.Cell.{Cell}
+use Rattle.refusal.specs.declared.Refusal.{Refusal}
 use Rattle.refusal.specs.Table.{rawOf}
 use Rattle.cell.specs.Cell.{distanceCells}
 use Rattle.cell.specs.Laws.{Words}
+use Rattle.layer.specs.Changes.{changed}
 use Rattle.known.specs.Known.{cellIn}
 use Rattle.rows.specs.Rows.{rowIn, rowsIn}
-use Rattle.search.specs.Search.{Problem, Told, Row, Flow, going, done, found, find, isKnown, gOf, traced, arrived, run, begin}
+use Rattle.search.specs.Search.{Problem, Told, Row, Result, Flow, going, done, found, find, isKnown, gOf, traced, arrived, run, begin}
 use Rattle.search.specs.Plan.{planOf, distanceBits, resultOf, popsFor}
 use Rattle.search.specs.Ending.{result-is}
 use Rattle.search.specs.Besides.{cell-raw}
@@ -19,8 +21,9 @@ use Rattle.astar.specs.declared.Plan.{Plan}
 use Rattle.astar.specs.declared.Sizes.{Sizes}
 use Rattle.astar.specs.declared.Step.{Step}
 use Rattle.astar.specs.declared.Step.the-variants as steps
+use Rattle.astar.specs.declared.SearchAnswer.the-variants as answer
 use Rattle.astar.specs.State.{stateIn, problemOf, flowIn, GoodStep, Meets, Ran}
-use Rattle.astar.specs.Answer.{wayTo, resultShown, Ended}
+use Rattle.astar.specs.Answer.{answeredIn, wayTo, resultShown, Ended}
 use Rattle.astar.specs.AdvanceLaws.{count-small}
 
 -- ---- a search that has come to its goal
@@ -34,8 +37,9 @@ module _ (p : Plan) (flags w : List ℕ) (count : ℕ) (z : Sizes) where
   unfolding arrived planOf
   arrived-at i goal row = λ j. found (traced (rawOf (p .start)) (z .count) rows (rawOf (goal j)) []) (gOf (sym row j)) (z .count)
 
-  pub never-unknown : isKnown (find (rawOf (p .goal)) rows) ≡ true → find (rawOf (p .goal)) rows ≡ none → ⊥
-  never-unknown known nowhere = true≢false (sym known ∙ ap isKnown nowhere)
+-- where a row is found, one is
+pub never-unknown : {found : Option Row} → isKnown found ≡ true → found ≡ none → ⊥
+never-unknown known nowhere = true≢false (sym known ∙ ap isKnown nowhere)
 
 -- ---- the last step
 
@@ -104,3 +108,15 @@ module _ (p : Plan) (flags : List ℕ) (count : ℕ) (words : Words (p .start)) 
       ap (λ (t : Told ℕ). resultOf (run P (popsFor (p .known) (p .waiting)) (begin P t))) (sym told-is)
       ∙ result-is P known-room waiting-room (resultShown P p w r)
       (a .pops, ap (λ (t : Told ℕ). run P (a .pops) (begin P t)) told-is ∙ sym (a .met .same) ∙ last-shown P p w h r (a .last))
+
+-- ---- the answer
+
+module _ (p : Plan) (flags w : List ℕ) (count : ℕ) (l : List ℕ) {r : Step} where
+  pub shown-stopped : (q : Refusal) → r ≡ steps.Stopped q → changed (answer.Refused q) l ≡ answeredIn (resultShown (problemOf p flags count) p w r) l
+  shown-stopped q e = ap (λ (s : Step). answeredIn (resultShown (problemOf p flags count) p w s) l) (sym e)
+
+  pub shown-arrived : (z : Sizes) (i : ℕ) → r ≡ steps.Arrived z → cellIn w (p .known) i ≡ p .goal → find (rawOf (p .goal)) (rowsIn w (p .known) (z .known)) ≡ some (rowIn w (p .known) i)
+      → answeredIn (found (wayTo p w z i) (rowIn w (p .known) i .g) (z .count)) l ≡ answeredIn (resultShown (problemOf p flags count) p w r) l
+  shown-arrived z i e goal row =
+      ap (λ (x : Result). answeredIn x l) (arrived-at p flags w count z i goal row)
+      ∙ ap (λ (s : Step). answeredIn (resultShown (problemOf p flags count) p w s) l) (sym e)

@@ -6,6 +6,7 @@ ghost use Prim.Native.Nat.{_*_, _≤_, _<_};
 ghost use lib.ListN.{length};
 ghost use Rattle.refusal.specs.Table.{rawOf};
 ghost use Rattle.cell.specs.Cell.{distanceCells};
+ghost use Rattle.cell.specs.Bytes.{fromBytesOf};
 ghost use Rattle.layer.specs.Layer.{isSound, rowsOf};
 ghost use Rattle.layer.specs.Changes.{changed};
 ghost use Rattle.known.specs.Known.{Roomy};
@@ -13,7 +14,8 @@ ghost use Rattle.search.specs.Search.{begin, run, found};
 ghost use Rattle.search.specs.Plan.{distanceBits, resultOf, popsFor, searchOf};
 ghost use Rattle.astar.specs.State.{problemOf, Meets, Ran};
 ghost use Rattle.astar.specs.Answer.{answeredIn, resultShown, Ended};
-ghost use Rattle.astar.specs.Call.{isRoom, hasRooms};
+ghost use Rattle.astar.specs.Call.{isRoom, hasRooms, resultUnder, resultIn, searched, searchIn};
+ghost use Rattle.astar.specs.CallLaws.{Rooms};
 use crate::Estimate;
 use crate::Plan;
 use crate::Route;
@@ -21,6 +23,7 @@ use crate::SearchAnswer;
 use crate::Sizes;
 use crate::Step;
 use crate::way;
+use cell::CellAnswer;
 use known::Found;
 use lattice::ParityAnswer;
 use refusal::Cell;
@@ -196,4 +199,136 @@ fn has_rooms(known: usize, waiting: usize, workspace: &[u8], heap: &[u8]) -> boo
         }
     }
     false
+}
+
+// The search in a flag layer, under a rule.
+fn search_in_layer(
+    workspace: &mut [u8],
+    heap: &mut [u8],
+    flags: &[u8],
+    count: usize,
+    plan: Plan,
+    output: &mut [u8],
+) -> SearchAnswer
+    requires { ⌜ Roomy (now workspace) (plan .known) ⌝ }
+    requires { ⌜ (0 < plan .waiting) × (plan .waiting ≤ 65536) ⌝ }
+    requires { ⌜ 32 * plan .waiting ≤ length (now heap) ⌝ }
+    ensures { λ r. ⌜ changed r (now (output .exit)) ≡ answeredIn (resultUnder (plan .start) (plan .goal) (plan .known) (plan .waiting) (plan .limit) (plan .rule) (now (flags .entry)) count) (now (output .entry)) ⌝ }
+    ensures { λ r. ⌜ length (now (workspace .exit)) ≡ length (now (workspace .entry)) ⌝ }
+    ensures { λ r. ⌜ length (now (heap .exit)) ≡ length (now (heap .entry)) ⌝ }
+{
+    if !layer::is_sound(flags, 20, count) {
+        return SearchAnswer::Refused(Refusal::BadLayer);
+    }
+    if plan.rule >= 2 {
+        return SearchAnswer::Refused(Refusal::BadRule);
+    }
+    search(workspace, heap, flags, count, plan, output)
+}
+
+// The search between the cells of some bytes, with rooms that suffice.
+fn search_from(
+    start: &[u8],
+    goal: &[u8],
+    known: usize,
+    waiting: usize,
+    limit: u64,
+    rule: u32,
+    flags: &[u8],
+    count: usize,
+    workspace: &mut [u8],
+    heap: &mut [u8],
+    output: &mut [u8],
+) -> SearchAnswer
+    requires { ⌜ Rooms known waiting (now workspace) (now heap) ⌝ }
+    ensures { λ r. ⌜ changed r (now (output .exit)) ≡ answeredIn (resultIn (fromBytesOf (now (start .entry))) (fromBytesOf (now (goal .entry))) known waiting limit rule (now (flags .entry)) count) (now (output .entry)) ⌝ }
+    ensures { λ r. ⌜ length (now (workspace .exit)) ≡ length (now (workspace .entry)) ⌝ }
+    ensures { λ r. ⌜ length (now (heap .exit)) ≡ length (now (heap .entry)) ⌝ }
+{
+    match cell::from_bytes(start) {
+        CellAnswer::Refused(r) => SearchAnswer::Refused(r),
+        CellAnswer::Is(s) => match cell::from_bytes(goal) {
+            CellAnswer::Refused(r) => SearchAnswer::Refused(r),
+            CellAnswer::Is(e) => {
+                let plan = Plan {
+                    start: s,
+                    goal: e,
+                    known,
+                    waiting,
+                    limit,
+                    rule,
+                };
+                search_in_layer(workspace, heap, flags, count, plan, output)
+            }
+        },
+    }
+}
+
+// A search that closes so many cells at most. Both workspaces are zeroed when the call returns, whatever it answers, but for workspaces that are too small.
+pub fn astar_with_limit(
+    start: &[u8],
+    goal: &[u8],
+    known: usize,
+    waiting: usize,
+    limit: u64,
+    rule: u32,
+    flags: &[u8],
+    count: usize,
+    workspace: &mut [u8],
+    heap: &mut [u8],
+    output: &mut [u8],
+) -> SearchAnswer
+    ensures { λ r. ⌜ searched r (now (workspace .exit)) (now (heap .exit)) (now (output .exit)) ≡ searchIn (now (start .entry)) (now (goal .entry)) known waiting limit rule (now (flags .entry)) count (now (workspace .entry)) (now (heap .entry)) (now (output .entry)) ⌝ }
+{
+    if !has_rooms(known, waiting, workspace, heap) {
+        return SearchAnswer::Refused(Refusal::BadWorkspace);
+    }
+    let answer = search_from(
+        start,
+        goal,
+        known,
+        waiting,
+        limit,
+        rule,
+        flags,
+        count,
+        workspace,
+        heap,
+        output,
+    );
+    let size = workspace.len();
+    layer::records::zero(workspace, 0, size);
+    let entries = heap.len();
+    layer::records::zero(heap, 0, entries);
+    answer
+}
+
+// A search that closes 100,000 cells at most.
+pub fn astar(
+    start: &[u8],
+    goal: &[u8],
+    known: usize,
+    waiting: usize,
+    rule: u32,
+    flags: &[u8],
+    count: usize,
+    workspace: &mut [u8],
+    heap: &mut [u8],
+    output: &mut [u8],
+) -> SearchAnswer
+    ensures { λ r. ⌜ searched r (now (workspace .exit)) (now (heap .exit)) (now (output .exit)) ≡ searchIn (now (start .entry)) (now (goal .entry)) known waiting 100000 rule (now (flags .entry)) count (now (workspace .entry)) (now (heap .entry)) (now (output .entry)) ⌝ }
+{
+    astar_with_limit(
+        start,
+        goal,
+        known,
+        waiting,
+        100_000,
+        rule,
+        flags,
+        count,
+        workspace,
+        heap,
+        output,
+    )
 }
