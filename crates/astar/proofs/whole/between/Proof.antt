@@ -1,8 +1,9 @@
+-- What the last step shows is the result of the definition.
 use mathlib.Core.Path.{sym, _∙_}
 use native.Mathlib.Omega.{arith}
+use borrow.Author.Needs.{needs}
 use Rattle.astar.specs.CallLaws.{answers}
 use Rattle.astar.specs.EndLaws.{ran-ended, ran-result}
-use borrow.Author.Needs.{needs}
 use Rattle.astar.proofs.whole.between.Statement.{statement}
 use Rattle.astar.proofs.whole.between.Tie as tie
 
@@ -22,7 +23,12 @@ same-length-3 : tie.Need-same-length-3
 same-length-3 c = search needs
 
 returns : tie.Need-returns
-returns c = ((c .before .before .end) .ensures ∙ answers ((c .before .before .before .before .before .before .before .before .before .before .before .before .before .before .before .before .args) .output .now) (sym (ran-result ((c .before .before .before .before .before .before .before .before .before .before .before .before .before .before .before .before .args) .plan) ((c .before .before .before .before .before .before .before .before .before .before .before .before .before .before .before .before .args) .flags .now) ((c .before .before .before .before .before .before .before .before .before .before .before .before .before .before .before .before .args) .count) (record { high-word = omega (arith, (c .before .before .before .before .before .before .before .before .before .before .before .before .before .before .before .before .good)); low-word = omega (arith, (c .before .before .before .before .before .before .before .before .before .before .before .before .before .before .before .before .good)) }) ((c .before .before .before .before .before .before .before .before .before .before .before .before .before .before .before .before .pre) .0 .some) ((c .before .before .before .before .before .before .before .before .before .before .before .before .before .before .before .before .pre) .1 .0 .0) _ _ _ _ _ ((c .before .before .before .before .before .before .before .before .before .run-from-start) .ensures))), ((c .before .before .before .before .before .before .before .before .before .run-from-start) .ensures .met .workspace-length, (c .before .before .before .before .before .before .before .before .before .run-from-start) .ensures .met .heap-length))
+returns c =
+    let at-end = c .before .before in
+    let at-run-from-start = at-end .before .before .before .before .before .before .before in
+    let entry = at-run-from-start .before .before .before .before .before .before .before in
+    let args = entry .args in
+    (at-end .end .ensures ∙ answers (args .output .now) (sym (ran-result (args .plan) (args .flags .now) (args .count) (record { high-word = omega (arith, entry .good); low-word = omega (arith, entry .good) }) (entry .pre .0 .some) (entry .pre .1 .0 .0) _ _ _ _ _ (at-run-from-start .run-from-start .ensures))), (at-run-from-start .run-from-start .ensures .met .workspace-length, at-run-from-start .run-from-start .ensures .met .heap-length))
 
 pub between-spec : {M : Type 1} → statement M
 between-spec =

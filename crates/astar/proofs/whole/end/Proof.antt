@@ -1,6 +1,7 @@
+-- A search that has ended was refused, or has come to its goal, which is known.
 use mathlib.Core.Path.{_∙_}
-use Rattle.astar.specs.EndLaws.{never-unknown, shown-stopped, shown-arrived}
 use borrow.Author.Needs.{needs}
+use Rattle.astar.specs.EndLaws.{never-unknown, shown-stopped, shown-arrived}
 use Rattle.astar.proofs.whole.end.Statement.{statement}
 use Rattle.astar.proofs.whole.end.Tie as tie
 
@@ -17,7 +18,12 @@ enum-known-i : tie.Need-enum-known-i
 enum-known-i c = search needs
 
 answer-requires : tie.Need-answer-requires
-answer-requires c κs = ((rw ((c .before .before .before .before .before .before .before .step2) .given .1) at (c .before .before .before .before .before .before .before .before .before .before .before .before .pre)) .0, ((rw ((c .before .before .i) .given .1) at ((c .before .before .before .before .look) .ensures)) .0, (rw ((c .before .before .before .before .before .before .before .step2) .given .1) at (c .before .before .before .before .before .before .before .before .before .before .before .before .pre)) .1))
+answer-requires c κs =
+    let at-i = c .before .before in
+    let at-look = at-i .before .before in
+    let at-step2 = at-look .before .before .before in
+    let entry = at-step2 .before .before .before .before .before in
+    ((rw (at-step2 .step2 .given .1) at (entry .pre)) .0, ((rw (at-i .i .given .1) at (at-look .look .ensures)) .0, (rw (at-step2 .step2 .given .1) at (entry .pre)) .1))
 
 enum-told : tie.Need-enum-told
 enum-told c = search needs
@@ -26,16 +32,31 @@ enum-told-2 : tie.Need-enum-told-2
 enum-told-2 c = search needs
 
 returns : tie.Need-returns
-returns c = shown-stopped ((c .before .before .before .before .before .before .args) .plan) ((c .before .before .before .before .before .before .args) .flags .now) ((c .before .before .before .before .before .before .args) .workspace .now) ((c .before .before .before .before .before .before .args) .count) ((c .before .before .before .before .before .before .args) .output .now) _ ((c .before .step) .given .1)
+returns c =
+    let at-step = c .before in
+    let entry = at-step .before .before .before .before .before in
+    let args = entry .args in
+    shown-stopped (args .plan) (args .flags .now) (args .workspace .now) (args .count) (args .output .now) _ (at-step .step .given .1)
 
 same-length : tie.Need-same-length
 same-length c = search needs
 
 returns-2 : tie.Need-returns-2
-returns-2 c = (c .before .before .answer) .ensures ∙ shown-arrived ((c .before .before .before .before .before .before .before .before .before .before .before .before .before .before .before .args) .plan) ((c .before .before .before .before .before .before .before .before .before .before .before .before .before .before .before .args) .flags .now) ((c .before .before .before .before .before .before .before .before .before .before .before .before .before .before .before .args) .workspace .now) ((c .before .before .before .before .before .before .before .before .before .before .before .before .before .before .before .args) .count) ((c .before .before .before .before .before .before .before .before .before .before .before .before .before .before .before .args) .output .now) _ _ ((c .before .before .before .before .before .before .before .before .before .before .step2) .given .1) ((rw ((c .before .before .before .before .before .i) .given .1) at ((c .before .before .before .before .before .before .before .look) .ensures)) .1) ((rw ((c .before .before .before .before .before .i) .given .1) at ((c .before .before .before .before .before .before .before .look) .ensures)) .2)
+returns-2 c =
+    let at-answer = c .before .before in
+    let at-i = at-answer .before .before .before in
+    let at-look = at-i .before .before in
+    let at-step2 = at-look .before .before .before in
+    let entry = at-step2 .before .before .before .before .before in
+    let args = entry .args in
+    at-answer .answer .ensures ∙ shown-arrived (args .plan) (args .flags .now) (args .workspace .now) (args .count) (args .output .now) _ _ (at-step2 .step2 .given .1) ((rw (at-i .i .given .1) at (at-look .look .ensures)) .1) ((rw (at-i .i .given .1) at (at-look .look .ensures)) .2)
 
 returns-3 : tie.Need-returns-3
-returns-3 c = absurd (never-unknown ((rw ((c .before .before .before .before .before .step2) .given .1) at (c .before .before .before .before .before .before .before .before .before .before .pre)) .2) ((rw ((c .enum-told) .given .1) at ((c .before .before .look) .ensures)) .1))
+returns-3 c =
+    let at-look = c .before .before in
+    let at-step2 = at-look .before .before .before in
+    let entry = at-step2 .before .before .before .before .before in
+    absurd (never-unknown ((rw (at-step2 .step2 .given .1) at (entry .pre)) .2) ((rw (c .enum-told .given .1) at (at-look .look .ensures)) .1))
 
 returns-4 : tie.Need-returns-4
 returns-4 c = absurd (rw ((c .enum-told2) .given .1) at (c .before .before .before .before .before .pre))

@@ -1,48 +1,46 @@
+-- A first step that is the last, or all others after it.
+use borrow.Author.Needs.{needs}
 use Rattle.astar.specs.EndLaws.{met-ran, then-ran}
 use Rattle.astar.proofs.Last.{ended}
-use borrow.Author.Needs.{needs}
 use Rattle.astar.proofs.whole.run_from_start.Statement.{statement}
 use Rattle.astar.proofs.whole.run_from_start.Tie as tie
-use Rattle.astar.proofs.whole.run_from_start.Reads as reads
-use Rattle.astar.proofs.whole.run_from_start.Lts as lts
-use Rattle.astar.proofs.run.Reads as run-reads
-use Rattle.astar.proofs.whole.begin.Reads as begin-reads
 
--- src/whole.rt:77:9
 begin-requires : tie.Need-begin-requires
 begin-requires c κs = search needs
 
--- src/whole.rt:78:21
 enum-known-first : tie.Need-enum-known-first
 enum-known-first c = search needs
 
--- src/whole.rt:79:9
 same-length : tie.Need-same-length
 same-length c = search needs
 
--- src/whole.rt:79:9
 same-length-2 : tie.Need-same-length-2
 same-length-2 c = search needs
 
--- src/whole.rt:79:9
 returns : tie.Need-returns
-returns c = met-ran ((c .before .before .before .before .before .begin) .ensures) (ended ((c .before .before .before .before .before .begin) .result) ((c .match) .keys2))
+returns c =
+    let at-begin = c .before .before .before .before .before in
+    met-ran (at-begin .begin .ensures) (ended (at-begin .begin .result) (c .match .keys2))
 
--- src/whole.rt:81:5
 run-requires : tie.Need-run-requires
-run-requires c κs = ((rw ((c .before .before .before .first) .given .1) at ((c .before .before .before .before .before .before .before .before .before .begin) .ensures)) .good, (c .before .before .before .before .before .before .before .before .before .before .before .before .before .before .before .pre) .1 .1 .1)
+run-requires c κs =
+    let at-first = c .before .before .before in
+    let at-begin = at-first .before .before .before .before .before .before in
+    let entry = at-begin .before .before .before .before .before .before in
+    ((rw (at-first .first .given .1) at (at-begin .begin .ensures)) .good, entry .pre .1 .1 .1)
 
--- src/whole.rt:64:1
 same-length-3 : tie.Need-same-length-3
 same-length-3 c = search needs
 
--- src/whole.rt:64:1
 same-length-4 : tie.Need-same-length-4
 same-length-4 c = search needs
 
--- src/whole.rt:64:1
 returns-2 : tie.Need-returns-2
-returns-2 c = then-ran _ _ _ (rw ((c .before .before .before .before .before .before .before .before .first) .given .1) at ((c .before .before .before .before .before .before .before .before .before .before .before .before .before .before .begin) .ensures)) ((c .before .before .before .before .run) .ensures)
+returns-2 c =
+    let at-run = c .before .before .before .before in
+    let at-first = at-run .before .before .before .before in
+    let at-begin = at-first .before .before .before .before .before .before in
+    then-ran _ _ _ (rw (at-first .first .given .1) at (at-begin .begin .ensures)) (at-run .run .ensures)
 
 pub run-from-start-spec : {M : Type 1} → statement M
 run-from-start-spec =
