@@ -9,7 +9,6 @@ use lib.ListN.{length}
 use Rattle.refusal.specs.declared.Cell.{Cell}
 use Rattle.refusal.specs.declared.Refusal.{Refusal}
 use Rattle.refusal.specs.Table.{rawOf}
-use Rattle.cell.specs.Cell.{distanceCells}
 use Rattle.cell.specs.Laws.{Words}
 use Rattle.waiting.specs.Sorted.{ascendingKeys, sortedKeys}
 use Rattle.waiting.specs.Steps.{Pushed}
@@ -17,7 +16,7 @@ use Rattle.waiting.specs.Laws.{empty-heap}
 use Rattle.known.specs.Known.{cellIn}
 use Rattle.rows.specs.Rows.{rowsFrom, rowsIn, Rows, Changed}
 use Rattle.search.specs.Search.{Problem, Told, is, refused, row, state, going, find, put, insert, begin}
-use Rattle.search.specs.Plan.{distanceBits, planOf}
+use Rattle.search.specs.Plan.{planOf}
 use Rattle.search.specs.Counted.{closedIn}
 use Rattle.astar.specs.declared.Plan.{Plan}
 use Rattle.astar.specs.declared.Sizes.{Sizes}

@@ -13,7 +13,7 @@ use Rattle.cell.specs.declared.CellAnswer.{CellAnswer}
 use Rattle.cell.specs.declared.CellAnswer.the-variants as cell
 use Rattle.cell.specs.Bytes.{fromBytesOf}
 use Rattle.layer.specs.Layer.{rowsOf, isSound}
-use Rattle.layer.specs.Changes.{Changed, changed}
+use Rattle.layer.specs.Changes.{Changed}
 use Rattle.search.specs.Search.{Result, none-found}
 use Rattle.search.specs.Plan.{searchOf}
 use Rattle.astar.specs.declared.SearchAnswer.{SearchAnswer}

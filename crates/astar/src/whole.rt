@@ -264,7 +264,7 @@ fn search_from(
     }
 }
 
-// A search that closes so many cells at most. Both workspaces are zeroed when the call returns, whatever it answers, but for workspaces that are too small.
+// The search, refused where it closes more cells than a limit. Both workspaces are zeroed when the call returns, whatever it answers, but for workspaces that are too small.
 pub fn astar_with_limit(
     start: &[u8],
     goal: &[u8],
@@ -303,7 +303,7 @@ pub fn astar_with_limit(
     answer
 }
 
-// A search that closes 100,000 cells at most.
+// The search with a limit of 100,000.
 pub fn astar(
     start: &[u8],
     goal: &[u8],
