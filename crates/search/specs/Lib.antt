@@ -7,11 +7,11 @@ pub mod Rooms
 mod Cases
 pub mod KnownLaws
 pub mod WaitingLaws
-mod Kept
+pub mod Kept
 mod Trails
-mod Besides
+pub mod Besides
 mod Judged
-mod Counted
+pub mod Counted
 mod LargerRooms
 mod Shortages
 mod Refusals

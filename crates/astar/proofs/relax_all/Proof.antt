@@ -1,0 +1,99 @@
+-- The invariant: the first i neighbours were looked at.
+use mathlib.Core.Path.{refl, _∙_}
+use Prim.Native.Nat.{_-_}
+use native.Mathlib.Omega.{arith}
+use borrow.Author.Needs.{needs}
+use Rattle.astar.specs.State.{problemOf}
+use Rattle.astar.specs.AroundLaws.{Around, around-start, around-next, around-out, around-end}
+use Rattle.astar.proofs.relax_all.Statement.{statement}
+use Rattle.astar.proofs.relax_all.Tie as tie
+
+abbrev Inv-loop : tie.InvT-loop
+Inv-loop workspace₀ heap₀ flags count plan at g cells size₀ i₀ workspace heap size i =
+    Around (problemOf plan flags count) plan at g cells workspace₀ heap₀ size₀ workspace heap size i
+
+abbrev μ-loop : tie.MeasureT-loop
+μ-loop workspace₀ heap₀ flags count plan at g cells size₀ i₀ workspace heap size i = 14 - i
+
+loop-holds : tie.Need-loop-holds Inv-loop μ-loop
+loop-holds c = around-start (search needs) ((c .before .before .before .pre) .0) ((c .before .before .before .pre) .1 .1 .1)
+
+mul-relax : tie.Need-mul-relax Inv-loop μ-loop
+mul-relax c = search needs
+
+array-copy-out-relax : tie.Need-array-copy-out-relax Inv-loop μ-loop
+array-copy-out-relax c = search needs
+
+relax-requires : tie.Need-relax-requires Inv-loop μ-loop
+relax-requires c κs = ((c .before .before .before .before .loop) .inv .good, ((c .before .before .before .before .before .before .before .before .pre) .1 .0, ((c .before .before .before .before .before .before .before .before .pre) .1 .1 .0, (c .before .before .before .before .loop) .inv .below)))
+
+enum-known-z : tie.Need-enum-known-z Inv-loop μ-loop
+enum-known-z c = search needs
+
+enum-known-r : tie.Need-enum-known-r Inv-loop μ-loop
+enum-known-r c = search needs
+
+same-length : tie.Need-same-length Inv-loop μ-loop
+same-length c = (c .before .before .before .before .before .before .before .relax) .ensures .workspace-length ∙ (c .before .before .before .before .before .before .before .before .before .before .before .before .loop) .inv .workspace-length
+
+same-length-2 : tie.Need-same-length-2 Inv-loop μ-loop
+same-length-2 c = (c .before .before .before .before .before .before .before .relax) .ensures .heap-length ∙ (c .before .before .before .before .before .before .before .before .before .before .before .before .loop) .inv .heap-length
+
+returns : tie.Need-returns Inv-loop μ-loop
+returns c = around-out ((c .before .before .before .before .before .before .before .before .before .before .before .before .loop) .inv) (record { high = 0; low = 0 }) ((c .before .before .before .before .before .before .before .before .before .before .before .loop-test) .taken) _ _ _ (rw ((c .before .r) .given .1) at ((c .before .before .before .before .before .before .before .relax) .ensures)) _ refl
+
+enum-known-z-2 : tie.Need-enum-known-z-2 Inv-loop μ-loop
+enum-known-z-2 c = search needs
+
+same-length-3 : tie.Need-same-length-3 Inv-loop μ-loop
+same-length-3 c = (c .before .before .before .before .before .before .before .relax) .ensures .workspace-length ∙ (c .before .before .before .before .before .before .before .before .before .before .before .before .loop) .inv .workspace-length
+
+same-length-4 : tie.Need-same-length-4 Inv-loop μ-loop
+same-length-4 c = (c .before .before .before .before .before .before .before .relax) .ensures .heap-length ∙ (c .before .before .before .before .before .before .before .before .before .before .before .before .loop) .inv .heap-length
+
+returns-2 : tie.Need-returns-2 Inv-loop μ-loop
+returns-2 c = around-out ((c .before .before .before .before .before .before .before .before .before .before .before .before .loop) .inv) (record { high = 0; low = 0 }) ((c .before .before .before .before .before .before .before .before .before .before .before .loop-test) .taken) _ _ _ (rw ((c .before .z2) .given .1) at ((c .before .before .before .before .before .before .before .relax) .ensures)) _ refl
+
+add-i : tie.Need-add-i Inv-loop μ-loop
+add-i c = search needs
+
+loop-less : tie.Need-loop-less Inv-loop μ-loop
+loop-less c = search needs
+
+loop-again : tie.Need-loop-again Inv-loop μ-loop
+loop-again c = around-next ((c .before .before .before .before .before .before .before .before .before .before .before .before .loop) .inv) (record { high = 0; low = 0 }) ((c .before .before .before .before .before .before .before .before .before .before .before .loop-test) .taken) _ _ _ (rw ((c .before .z) .given .1) at ((c .before .before .before .before .before .before .before .relax) .ensures))
+
+same-length-5 : tie.Need-same-length-5 Inv-loop μ-loop
+same-length-5 c = (c .before .loop) .inv .workspace-length
+
+same-length-6 : tie.Need-same-length-6 Inv-loop μ-loop
+same-length-6 c = (c .before .loop) .inv .heap-length
+
+returns-3 : tie.Need-returns-3 Inv-loop μ-loop
+returns-3 c = around-end ((c .before .loop) .inv) ((c .loop-test) .left)
+
+pub relax-all-spec : {M : Type 1} → statement M
+relax-all-spec =
+    tie.close
+    (tie.spec
+    Inv-loop
+    μ-loop
+    loop-holds
+    mul-relax
+    array-copy-out-relax
+    relax-requires
+    enum-known-z
+    enum-known-r
+    same-length
+    same-length-2
+    returns
+    enum-known-z-2
+    same-length-3
+    same-length-4
+    returns-2
+    add-i
+    loop-less
+    loop-again
+    same-length-5
+    same-length-6
+    returns-3)

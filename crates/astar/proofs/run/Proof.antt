@@ -1,0 +1,55 @@
+-- The invariant: so many pops were made. What is left falls.
+use mathlib.Core.Path.{_∙_}
+use borrow.Author.Needs.{needs}
+use Rattle.search.specs.Ending.{left}
+use Rattle.astar.specs.State.{problemOf, stateIn}
+use Rattle.astar.specs.RunLaws.{Running, run-start, run-next, run-falls, run-ends}
+use Rattle.astar.proofs.Last.{ended}
+use Rattle.astar.proofs.run.Statement.{statement}
+use Rattle.astar.proofs.run.Tie as tie
+
+abbrev Inv-loop : tie.InvT-loop
+Inv-loop workspace₀ heap₀ flags count plan size₀ workspace heap size =
+    Running plan flags count workspace₀ heap₀ size₀ workspace heap size
+
+abbrev μ-loop : tie.MeasureT-loop
+μ-loop workspace₀ heap₀ flags count plan size₀ workspace heap size = left (problemOf plan flags count) (stateIn plan workspace heap size)
+
+loop-holds : tie.Need-loop-holds Inv-loop μ-loop
+loop-holds c = run-start ((c .before .before .before .pre) .0)
+
+advance-requires : tie.Need-advance-requires Inv-loop μ-loop
+advance-requires c κs = ((c .before .before .loop) .inv .good, (c .before .before .before .before .before .before .pre) .1)
+
+enum-known-r : tie.Need-enum-known-r Inv-loop μ-loop
+enum-known-r c = search needs
+
+same-length : tie.Need-same-length Inv-loop μ-loop
+same-length c = (c .before .before .before .before .before .advance) .ensures .workspace-length ∙ (c .before .before .before .before .before .before .before .before .loop) .inv .workspace-length
+
+same-length-2 : tie.Need-same-length-2 Inv-loop μ-loop
+same-length-2 c = (c .before .before .before .before .before .advance) .ensures .heap-length ∙ (c .before .before .before .before .before .before .before .before .loop) .inv .heap-length
+
+returns : tie.Need-returns Inv-loop μ-loop
+returns c = run-ends ((c .before .before .before .before .before .before .before .before .loop) .inv) _ _ _ (ended ((c .before .before .before .before .before .advance) .result) ((c .match) .keys2)) ((c .before .before .before .before .before .advance) .ensures)
+
+loop-less : tie.Need-loop-less Inv-loop μ-loop
+loop-less c = run-falls ((c .before .before .before .before .before .before .before .before .before .before .loop) .inv) _ _ _ (rw ((c .before .r) .given .1) at ((c .before .before .before .before .before .before .before .advance) .ensures))
+
+loop-again : tie.Need-loop-again Inv-loop μ-loop
+loop-again c = run-next ((c .before .before .before .before .before .before .before .before .before .before .loop) .inv) _ _ _ (rw ((c .before .r) .given .1) at ((c .before .before .before .before .before .before .before .advance) .ensures))
+
+pub run-spec : {M : Type 1} → statement M
+run-spec =
+    tie.close
+    (tie.spec
+    Inv-loop
+    μ-loop
+    loop-holds
+    advance-requires
+    enum-known-r
+    same-length
+    same-length-2
+    returns
+    loop-less
+    loop-again)

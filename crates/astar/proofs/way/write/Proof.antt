@@ -1,0 +1,67 @@
+-- The invariant: the cells that were passed are written behind the place of the next.
+use mathlib.Core.Path.{_∙_}
+use native.Mathlib.Omega.{arith}
+use Rattle.astar.specs.WayLaws.{Writing, way-some, writing-start, writing-length, writing-within, writing-next, writing-last}
+use Rattle.astar.proofs.way.write.Statement.{statement}
+use Rattle.astar.proofs.way.write.Tie as tie
+
+abbrev Inv-loop : tie.InvT-loop
+Inv-loop workspace plan sizes i cells output₀ at₀ place₀ output at place = Writing plan workspace sizes i output₀ output at place
+
+abbrev μ-loop : tie.MeasureT-loop
+μ-loop workspace plan sizes i cells output₀ at₀ place₀ output at place = place
+
+sub-place : tie.Need-sub-place Inv-loop μ-loop
+sub-place c = omega (arith, (c .before .before .pre) .1 .1 .0, way-some ((c .before .before .args) .plan) ((c .before .before .args) .workspace .now) ((c .before .before .args) .sizes) ((c .before .before .args) .i))
+
+loop-holds : tie.Need-loop-holds Inv-loop μ-loop
+loop-holds c = writing-start ((c .before .before .pre) .1 .0) ((c .before .before .pre) .1 .1 .0) ((c .before .before .pre) .1 .1 .1)
+
+cell-at-requires : tie.Need-cell-at-requires Inv-loop μ-loop
+cell-at-requires c κs = ((c .before .before .before .before .before .pre) .0 .known .roomy, omega (arith, (c .before .before .loop) .inv .tracing .below, (c .before .before .before .before .before .pre) .0 .known .count))
+
+put-requires : tie.Need-put-requires Inv-loop μ-loop
+put-requires c κs = writing-within ((c .before .before .before .loop) .inv)
+
+before-at-requires : tie.Need-before-at-requires Inv-loop μ-loop
+before-at-requires c κs = ((c .before .before .before .before .before .before .before .before .before .pre) .0, (c .before .before .before .before .before .before .loop) .inv .tracing .below)
+
+sub-place-2 : tie.Need-sub-place-2 Inv-loop μ-loop
+sub-place-2 c = omega arith
+
+loop-less : tie.Need-loop-less Inv-loop μ-loop
+loop-less c = omega arith
+
+loop-again : tie.Need-loop-again Inv-loop μ-loop
+loop-again c = writing-next ((c .before .before .before .before .before .before .before .loop) .inv) (λ k. omega (arith, (c .before .before .before .before .before .before .before .before .before .shared-slice-known) .given k)) _ ((c .before .before .before .before .cell-at) .ensures) _ ((c .before .before .before .put) .ensures) ((c .before .before .before .before .before .before .before .before .before .before .pre) .0) ((c .before .before .before .before .before .before .loop-test) .taken) _ ((c .before-at) .ensures)
+
+cell-at-requires-2 : tie.Need-cell-at-requires-2 Inv-loop μ-loop
+cell-at-requires-2 c κs = ((c .before .before .before .before .before .pre) .0 .known .roomy, omega (arith, (c .before .before .loop) .inv .tracing .below, (c .before .before .before .before .before .pre) .0 .known .count))
+
+put-requires-2 : tie.Need-put-requires-2 Inv-loop μ-loop
+put-requires-2 c κs = omega (arith, writing-within ((c .before .before .before .loop) .inv))
+
+same-length : tie.Need-same-length Inv-loop μ-loop
+same-length c = (c .before .before .put2) .kept .0 ∙ writing-length ((c .before .before .before .before .before .before .loop) .inv)
+
+returns : tie.Need-returns Inv-loop μ-loop
+returns c = writing-last ((c .before .before .before .before .before .before .loop) .inv) (λ k. omega (arith, (c .before .before .before .before .before .before .before .before .shared-slice-known) .given k)) _ ((c .before .before .before .cell-at2) .ensures) _ ((c .before .before .put2) .ensures) ((c .before .before .before .before .before .loop-test) .left)
+
+pub write-spec : {M : Type 1} → statement M
+write-spec =
+    tie.close
+    (tie.spec
+    Inv-loop
+    μ-loop
+    sub-place
+    loop-holds
+    cell-at-requires
+    put-requires
+    before-at-requires
+    sub-place-2
+    loop-less
+    loop-again
+    cell-at-requires-2
+    put-requires-2
+    same-length
+    returns)

@@ -1,0 +1,73 @@
+-- Rooms that do not suffice, or what the search says and two workspaces of zeros.
+use mathlib.Core.Path.{sym, _∙_}
+use borrow.Author.Tests.{not-true, not-false}
+use borrow.Author.Needs.{needs}
+use Rattle.astar.specs.CallLaws.{rooms-tested, searched-bad, searched-wiped}
+use Rattle.astar.proofs.whole.astar_with_limit.Statement.{statement}
+use Rattle.astar.proofs.whole.astar_with_limit.Tie as tie
+
+has-rooms-requires : tie.Need-has-rooms-requires
+has-rooms-requires c κs = search needs
+
+same-length : tie.Need-same-length
+same-length c = search needs
+
+same-length-2 : tie.Need-same-length-2
+same-length-2 c = search needs
+
+returns : tie.Need-returns
+returns c =
+    let at-has-rooms = c .before in
+    let entry = at-has-rooms .before .before .before .before .before .before .before .before .before in
+    let args = entry .args in
+    searched-bad (args .start .now) (args .goal .now) (args .known) (args .waiting) (args .limit) (args .rule) (args .flags .now) (args .count) (args .workspace .now) (args .heap .now) (args .output .now) (sym (at-has-rooms .has-rooms .ensures) ∙ not-true _ (c .if1 .taken))
+
+search-from-requires : tie.Need-search-from-requires
+search-from-requires c κs =
+    let at-if1 = c .before .before .before in
+    let at-has-rooms = at-if1 .before in
+    let entry = at-has-rooms .before .before .before .before .before .before .before .before .before in
+    let args = entry .args in
+    rooms-tested (args .known) (args .waiting) (args .workspace .now) (args .heap .now) (sym (at-has-rooms .has-rooms .ensures) ∙ not-false _ (at-if1 .if1 .left))
+
+zero-requires : tie.Need-zero-requires
+zero-requires c κs = search needs
+
+zero-requires-2 : tie.Need-zero-requires-2
+zero-requires-2 c κs = search needs
+
+same-length-3 : tie.Need-same-length-3
+same-length-3 c = search needs
+
+same-length-4 : tie.Need-same-length-4
+same-length-4 c = search needs
+
+same-length-5 : tie.Need-same-length-5
+same-length-5 c = search needs
+
+returns-2 : tie.Need-returns-2
+returns-2 c =
+    let at-zero2 = c .before .before in
+    let at-zero = at-zero2 .before .before .before .before in
+    let at-search-from = at-zero .before .before .before .before .before .before .before .before in
+    let at-if1 = at-search-from .before .before .before .before in
+    let at-has-rooms = at-if1 .before in
+    let entry = at-has-rooms .before .before .before .before .before .before .before .before .before in
+    let args = entry .args in
+    searched-wiped (args .start .now) (args .goal .now) (args .known) (args .waiting) (args .limit) (args .rule) (args .flags .now) (args .count) (args .workspace .now) (args .heap .now) (args .output .now) (at-search-from .search-from .last .1 .1 .1 .1 .1 .1 .1 .1 .0) (at-search-from .search-from .last .1 .1 .1 .1 .1 .1 .1 .1 .1 .0) (sym (at-has-rooms .has-rooms .ensures) ∙ not-false _ (at-if1 .if1 .left)) (at-search-from .search-from .ensures .0) (at-search-from .search-from .ensures .1 .0) (at-zero .zero .ensures) (at-search-from .search-from .ensures .1 .1) (at-zero2 .zero2 .ensures)
+
+pub astar-with-limit-spec : {M : Type 1} → statement M
+astar-with-limit-spec =
+    tie.close
+    (tie.spec
+    has-rooms-requires
+    same-length
+    same-length-2
+    returns
+    search-from-requires
+    zero-requires
+    zero-requires-2
+    same-length-3
+    same-length-4
+    same-length-5
+    returns-2)

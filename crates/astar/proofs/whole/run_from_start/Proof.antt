@@ -1,0 +1,57 @@
+-- A first step that is the last, or all others after it.
+use borrow.Author.Needs.{needs}
+use Rattle.astar.specs.EndLaws.{met-ran, then-ran}
+use Rattle.astar.proofs.Last.{ended}
+use Rattle.astar.proofs.whole.run_from_start.Statement.{statement}
+use Rattle.astar.proofs.whole.run_from_start.Tie as tie
+
+begin-requires : tie.Need-begin-requires
+begin-requires c κs = search needs
+
+enum-known-first : tie.Need-enum-known-first
+enum-known-first c = search needs
+
+same-length : tie.Need-same-length
+same-length c = search needs
+
+same-length-2 : tie.Need-same-length-2
+same-length-2 c = search needs
+
+returns : tie.Need-returns
+returns c =
+    let at-begin = c .before .before .before .before .before in
+    met-ran (at-begin .begin .ensures) (ended (at-begin .begin .result) (c .match .keys2))
+
+run-requires : tie.Need-run-requires
+run-requires c κs =
+    let at-first = c .before .before .before in
+    let at-begin = at-first .before .before .before .before .before .before in
+    let entry = at-begin .before .before .before .before .before .before in
+    ((rw (at-first .first .given .1) at (at-begin .begin .ensures)) .good, entry .pre .1 .1 .1)
+
+same-length-3 : tie.Need-same-length-3
+same-length-3 c = search needs
+
+same-length-4 : tie.Need-same-length-4
+same-length-4 c = search needs
+
+returns-2 : tie.Need-returns-2
+returns-2 c =
+    let at-run = c .before .before .before .before in
+    let at-first = at-run .before .before .before .before in
+    let at-begin = at-first .before .before .before .before .before .before in
+    then-ran _ _ _ (rw (at-first .first .given .1) at (at-begin .begin .ensures)) (at-run .run .ensures)
+
+pub run-from-start-spec : {M : Type 1} → statement M
+run-from-start-spec =
+    tie.close
+    (tie.spec
+    begin-requires
+    enum-known-first
+    same-length
+    same-length-2
+    returns
+    run-requires
+    same-length-3
+    same-length-4
+    returns-2)

@@ -1,0 +1,85 @@
+-- Bytes that are no cell, or the search between two cells.
+use mathlib.Core.Path.{refl, sym, _∙_}
+use borrow.Author.Needs.{needs}
+use Rattle.astar.specs.CallLaws.{answers, from-bad-start, from-bad-goal, from-cells}
+use Rattle.astar.proofs.whole.search_from.Statement.{statement}
+use Rattle.astar.proofs.whole.search_from.Tie as tie
+
+from-bytes-requires : tie.Need-from-bytes-requires
+from-bytes-requires c κs = search needs
+
+enum-known-r : tie.Need-enum-known-r
+enum-known-r c = search needs
+
+enum-known-s : tie.Need-enum-known-s
+enum-known-s c = search needs
+
+from-bytes-requires-2 : tie.Need-from-bytes-requires-2
+from-bytes-requires-2 c κs = search needs
+
+enum-known-r-2 : tie.Need-enum-known-r-2
+enum-known-r-2 c = search needs
+
+enum-known-e : tie.Need-enum-known-e
+enum-known-e c = search needs
+
+search-in-layer-requires : tie.Need-search-in-layer-requires
+search-in-layer-requires c κs =
+    let entry = c .before .before .before .before .before .before .before .before .before .before .before .before .before .before .before .before .before in
+    (entry .pre .roomy, (entry .pre .waits, entry .pre .size))
+
+returns : tie.Need-returns
+returns c =
+    let at-r = c .before in
+    let at-from-bytes = at-r .before .before in
+    let entry = at-from-bytes .before .before .before .before .before .before .before in
+    let args = entry .args in
+    (answers (args .output .now) (from-bad-start (args .start .now) (args .goal .now) (args .known) (args .waiting) (args .limit) (args .rule) (args .flags .now) (args .count) _ (sym (at-from-bytes .from-bytes .ensures) ∙ at-r .r .given .1)), (refl, refl))
+
+returns-2 : tie.Need-returns-2
+returns-2 c =
+    let at-r2 = c .before in
+    let at-from-bytes2 = at-r2 .before .before in
+    let at-s = at-from-bytes2 .before .before in
+    let at-from-bytes = at-s .before .before in
+    let entry = at-from-bytes .before .before .before .before .before .before .before in
+    let args = entry .args in
+    (answers (args .output .now) (from-bad-goal (args .start .now) (args .goal .now) (args .known) (args .waiting) (args .limit) (args .rule) (args .flags .now) (args .count) _ _ (sym (at-from-bytes .from-bytes .ensures) ∙ at-s .s .given .1) (sym (at-from-bytes2 .from-bytes2 .ensures) ∙ at-r2 .r2 .given .1)), (refl, refl))
+
+same-length : tie.Need-same-length
+same-length c = search needs
+
+same-length-2 : tie.Need-same-length-2
+same-length-2 c = search needs
+
+same-length-3 : tie.Need-same-length-3
+same-length-3 c = search needs
+
+returns-3 : tie.Need-returns-3
+returns-3 c =
+    let at-search-in-layer = c .before .before .before .before .before .before in
+    let at-e = at-search-in-layer .before .before .before .before .before in
+    let at-from-bytes2 = at-e .before .before in
+    let at-s = at-from-bytes2 .before .before in
+    let at-from-bytes = at-s .before .before in
+    let entry = at-from-bytes .before .before .before .before .before .before .before in
+    let args = entry .args in
+    (at-search-in-layer .search-in-layer .ensures .0 ∙ answers (args .output .now) (from-cells (args .start .now) (args .goal .now) (args .known) (args .waiting) (args .limit) (args .rule) (args .flags .now) (args .count) _ _ (sym (at-from-bytes .from-bytes .ensures) ∙ at-s .s .given .1) (sym (at-from-bytes2 .from-bytes2 .ensures) ∙ at-e .e .given .1)), at-search-in-layer .search-in-layer .ensures .1)
+
+pub search-from-spec : {M : Type 1} → statement M
+search-from-spec =
+    tie.close
+    (tie.spec
+    from-bytes-requires
+    enum-known-r
+    enum-known-s
+    from-bytes-requires-2
+    enum-known-r-2
+    enum-known-e
+    search-in-layer-requires
+    returns
+    returns-2
+    same-length
+    same-length-2
+    same-length-3
+    returns-3)

@@ -1,0 +1,35 @@
+-- One cell fits where there is room for any.
+use mathlib.Core.Path.{refl}
+use mathlib.Core.List.{[], _∷_}
+use native.Mathlib.Omega.{arith}
+use borrow.Author.Needs.{needs}
+use Rattle.refusal.specs.Table.{rawOf}
+use Rattle.astar.specs.WayLaws.{way-refused}
+use Rattle.astar.specs.CallLaws.{stay-found}
+use Rattle.astar.proofs.whole.stay.Statement.{statement}
+use Rattle.astar.proofs.whole.stay.Tie as tie
+
+room-requires : tie.Need-room-requires
+room-requires c κs = search needs
+
+same-length : tie.Need-same-length
+same-length c = search needs
+
+returns : tie.Need-returns
+returns c = way-refused (rawOf ((c .before .before .before .before .args) .c) ∷ []) 0 0 1 ((c .before .before .before .before .args) .output .now) refl (omega arith)
+
+put-requires : tie.Need-put-requires
+put-requires c κs = search needs
+
+same-length-2 : tie.Need-same-length-2
+same-length-2 c = search needs
+
+returns-2 : tie.Need-returns-2
+returns-2 c =
+    let at-put = c .before .before in
+    let entry = at-put .before .before .before .before .before .before in
+    stay-found (entry .args .c) (entry .args .output .now) _ (record { high-word = omega (arith, entry .good); low-word = omega (arith, entry .good) }) (omega arith) (at-put .put .ensures)
+
+pub stay-spec : {M : Type 1} → statement M
+stay-spec =
+    tie.close (tie.spec room-requires same-length returns put-requires same-length-2 returns-2)

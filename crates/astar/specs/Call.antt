@@ -1,0 +1,60 @@
+-- The call: "The caller names room for known cells and waiting entries, each 1..=65,536, else BadWorkspace, also when the buffers are shorter than those need. Order: 11, 13, 14, 15; start =
+-- goal answers with cost 0.0, zero expansions, though mixed or blocked; parity of start, then goal; heuristic overflow." "The workspace may hold anything at entry and is all zero at return,
+-- answered or refused; only BadWorkspace leaves it untouched." A known cell takes 44 bytes of the one buffer and 64 bytes of it are a head for a search that is paused; a waiting entry takes 32 bytes of the
+-- other. Definitions only. Assumes nothing.
+use mathlib.Core.Bool.{Bool, cond, _&&_}
+use mathlib.Core.List.{List}
+use Prim.Native.Nat.{ℕ, _+_, _*_}
+use lib.Dec.{leb, ltb}
+use lib.ListN.{length, replicate}
+use Rattle.refusal.specs.declared.Cell.{Cell}
+use Rattle.refusal.specs.declared.Refusal.the-variants.{BadWorkspace, BadLayer, BadRule}
+use Rattle.cell.specs.declared.CellAnswer.{CellAnswer}
+use Rattle.cell.specs.declared.CellAnswer.the-variants as cell
+use Rattle.cell.specs.Bytes.{fromBytesOf}
+use Rattle.layer.specs.Layer.{rowsOf, isSound}
+use Rattle.layer.specs.Changes.{Changed}
+use Rattle.search.specs.Search.{Result, none-found}
+use Rattle.search.specs.Plan.{searchOf}
+use Rattle.astar.specs.declared.SearchAnswer.{SearchAnswer}
+use Rattle.astar.specs.declared.SearchAnswer.the-variants as answer
+use Rattle.astar.specs.Answer.{answeredIn}
+
+-- what the call says, and what stands in the three lent buffers when it returns
+pub record Searched : Type 0 where
+  pub said : SearchAnswer
+  pub known : List ℕ
+  pub waiting : List ℕ
+  pub output : List ℕ
+
+abbrev pub searched : SearchAnswer → List ℕ → List ℕ → List ℕ → Searched
+searched a w h l = record { said = a; known = w; waiting = h; output = l }
+
+abbrev pub zeros : List ℕ → List ℕ
+zeros l = replicate (length l) 0
+
+abbrev pub isRoom : ℕ → Bool
+isRoom n = leb 1 n && leb n 65536
+
+unfoldable pub hasRooms : ℕ → ℕ → List ℕ → List ℕ → Bool
+hasRooms known waiting w h = (isRoom known && isRoom waiting) && (leb (44 * known + 64) (length w) && leb (32 * waiting) (length h))
+
+-- BadLayer, BadRule, then the search
+abbrev pub resultUnder : Cell → Cell → ℕ → ℕ → ℕ → ℕ → List ℕ → ℕ → Result
+resultUnder s e known waiting limit rule flags n =
+    cond (isSound 20 flags n) (cond (ltb rule 2) (searchOf s e known waiting limit rule (rowsOf 20 flags n)) (none-found BadRule)) (none-found BadLayer)
+
+abbrev pub resultIn : CellAnswer → CellAnswer → ℕ → ℕ → ℕ → ℕ → List ℕ → ℕ → Result
+resultIn (cell.Refused r) e known waiting limit rule flags n = none-found r
+resultIn (cell.Is s) (cell.Refused r) known waiting limit rule flags n = none-found r
+resultIn (cell.Is s) (cell.Is e) known waiting limit rule flags n = resultUnder s e known waiting limit rule flags n
+
+abbrev pub wiped : Changed SearchAnswer → List ℕ → List ℕ → Searched
+wiped a w h = searched (a .said) (zeros w) (zeros h) (a .bytes)
+
+-- the start's and the goal's bytes, the rooms, the limit, the rule, the flag layer, the two workspaces and the output
+unfoldable pub searchIn : List ℕ → List ℕ → ℕ → ℕ → ℕ → ℕ → List ℕ → ℕ → List ℕ → List ℕ → List ℕ → Searched
+unfolding hasRooms fromBytesOf isSound rowsOf searchOf
+searchIn s e known waiting limit rule flags n w h l =
+    cond (hasRooms known waiting w h) (wiped (answeredIn (resultIn (fromBytesOf s) (fromBytesOf e) known waiting limit rule flags n) l) w h)
+    (searched (answer.Refused BadWorkspace) w h l)

@@ -1,0 +1,161 @@
+-- The cases of the call: rooms that were tested, the bytes of both ends, the layer and the rule, the search; and both workspaces are zeros. Assumes nothing.
+use mathlib.Core.Path.{_≡_, refl, sym, ap, _∙_}
+use mathlib.Core.Bool.{Bool, true, false, cond, _&&_}
+use mathlib.Core.List.{List, [], _∷_, _++_, append-nil}
+use Prim.Native.Nat.{ℕ, _+_, _-_, _*_, _≤_, _<_}
+use native.Mathlib.Nat.{sub-zero}
+use native.Mathlib.Omega.{arith}
+use borrow.Author.Tests.{leb-true, lt-ltb, le-ltb}
+use lib.Dec.{leb}
+use lib.ListN.{length, take, drop, replicate}
+use lib.Seq.{drop-length}
+use Rattle.refusal.specs.declared.Cell.{Cell}
+use Rattle.refusal.specs.declared.Refusal.{Refusal}
+use Rattle.refusal.specs.declared.Refusal.the-variants.{BadWorkspace, BadLayer, BadRule}
+use Rattle.refusal.specs.Table.{rawOf}
+use Rattle.lattice.specs.declared.Parity.{Parity}
+use Rattle.lattice.specs.declared.ParityAnswer.{ParityAnswer}
+use Rattle.lattice.specs.declared.ParityAnswer.the-variants as parity
+use Rattle.lattice.specs.Lattice.{parityOf}
+use Rattle.lattice.specs.Signs.{both}
+use Rattle.cell.specs.declared.CellAnswer.{CellAnswer}
+use Rattle.cell.specs.declared.CellAnswer.the-variants as cell
+use Rattle.cell.specs.Cell.{coordOf, sameCell, distanceCells}
+use Rattle.cell.specs.Bytes.{fromBytesOf}
+use Rattle.cell.specs.Laws.{Words}
+use Rattle.layer.specs.Layer.{Row, rowsOf, isSound}
+use Rattle.layer.specs.Changes.{Changed, changed}
+use Rattle.listing.specs.Listing.{roomIn, cellsLaid, cellPut}
+use Rattle.listing.specs.Laws.{cell-first}
+use Rattle.known.specs.Known.{Roomy}
+use Rattle.search.specs.Search.{Result, found, none-found, run, begin}
+use Rattle.search.specs.Plan.{distanceBits, planOf, resultOf, popsFor, resultBy, searchOf}
+use Rattle.search.specs.Besides.{cell-raw}
+use Rattle.astar.specs.declared.SearchAnswer.{SearchAnswer}
+use Rattle.astar.specs.declared.SearchAnswer.the-variants as answer
+use Rattle.astar.specs.Answer.{answeredIn}
+use Rattle.astar.specs.WayLaws.{way-found}
+use Rattle.astar.specs.Call.{searched, zeros, isRoom, hasRooms, resultUnder, resultIn, wiped, searchIn}
+
+-- results that are the same have the same answer
+pub answers : {x y : Result} (l : List ℕ) → x ≡ y → answeredIn x l ≡ answeredIn y l
+answers l e = ap (λ (x : Result). answeredIn x l) e
+
+-- a route of one cell
+pub stay-found : (c : Cell) (l out : List ℕ) → Words c → 1 ≤ roomIn l → out ≡ cellPut l 0 c → changed (answer.Found (record { cells = 1; cost = 0; expansions = 0 })) out ≡ answeredIn (found (rawOf c ∷ []) 0 0) l
+stay-found c l out words fits put =
+    way-found (rawOf c ∷ []) 0 0 1 l refl 0 out fits refl (put ∙ cell-first c l ∙ ap (λ (d : Cell). cellsLaid (d ∷ []) l) (sym (cell-raw c words)))
+
+-- ---- rooms
+
+pub record Room (n : ℕ) : Type 0 where
+  pub some : 0 < n
+  pub small : n ≤ 65536
+
+pub room-tested : (n : ℕ) → isRoom n ≡ true → Room n
+room-tested n e =
+    let tests = both (leb 1 n) (leb n 65536) e in
+    record { some = omega (arith, leb-true 1 n (tests .0)); small = leb-true n 65536 (tests .1) }
+
+-- two buffers that hold what the caller names room for
+pub record Rooms (known waiting : ℕ) (w h : List ℕ) : Type 0 where
+  pub roomy : Roomy w known
+  pub waits : (0 < waiting) × (waiting ≤ 65536)
+  pub size : 32 * waiting ≤ length h
+
+pub rooms-tested : (known waiting : ℕ) (w h : List ℕ) → hasRooms known waiting w h ≡ true → Rooms known waiting w h
+unfolding hasRooms
+rooms-tested known waiting w h e =
+    let tests = both (isRoom known && isRoom waiting) (leb (44 * known + 64) (length w) && leb (32 * waiting) (length h)) e in
+    let rooms = both (isRoom known) (isRoom waiting) (tests .0) in
+    let sizes = both (leb (44 * known + 64) (length w)) (leb (32 * waiting) (length h)) (tests .1) in
+    let few = room-tested known (rooms .0) in
+    let entries = room-tested waiting (rooms .1) in
+    record {
+      roomy = record { size = omega (arith, leb-true (44 * known + 64) (length w) (sizes .0)); small = few .small; some = few .some };
+      waits = (entries .some, entries .small);
+      size = leb-true (32 * waiting) (length h) (sizes .1);
+    }
+
+-- ---- the search between two cells
+
+module _ (s e : Cell) (known waiting limit rule : ℕ) (rows : List Row) where
+  pub search-same : sameCell s e ≡ true → found (rawOf s ∷ []) 0 0 ≡ searchOf s e known waiting limit rule rows
+  unfolding searchOf
+  search-same same = rw same refl
+
+  module _ (elsewhere : sameCell s e ≡ false) where
+    search-by : (p q : ParityAnswer) → parityOf (coordOf s) ≡ p → parityOf (coordOf e) ≡ q → searchOf s e known waiting limit rule rows ≡ resultBy p q (planOf s e known waiting limit rule rows)
+    unfolding searchOf
+    search-by p q f g = rw elsewhere (λ i. resultBy (f i) (g i) (planOf s e known waiting limit rule rows))
+
+    pub search-mixed-start : (r : Refusal) → parityOf (coordOf s) ≡ parity.Refused r → none-found r ≡ searchOf s e known waiting limit rule rows
+    search-mixed-start r f = sym (search-by (parity.Refused r) (parityOf (coordOf e)) f refl)
+
+    pub search-mixed-goal : (p : Parity) (r : Refusal) → parityOf (coordOf s) ≡ parity.Is p → parityOf (coordOf e) ≡ parity.Refused r → none-found r ≡ searchOf s e known waiting limit rule rows
+    search-mixed-goal p r f g = sym (search-by (parity.Is p) (parity.Refused r) f g)
+
+    pub search-between : Words s → (p q : Parity) → parityOf (coordOf s) ≡ parity.Is p → parityOf (coordOf e) ≡ parity.Is q
+        → resultOf (run (planOf s e known waiting limit rule rows) (popsFor known waiting) (begin (planOf s e known waiting limit rule rows) (distanceBits (distanceCells s e)))) ≡ searchOf s e known waiting limit rule rows
+    unfolding planOf
+    search-between words p q f g =
+        let P = planOf s e known waiting limit rule rows in
+        ap (λ (c : Cell). resultOf (run P (popsFor known waiting) (begin P (distanceBits (distanceCells c e))))) (sym (cell-raw s words))
+        ∙ sym (search-by (parity.Is p) (parity.Is q) f g)
+
+-- ---- the layer and the rule
+
+module _ (s e : Cell) (known waiting limit rule : ℕ) (flags : List ℕ) (n : ℕ) where
+  pub under-bad-layer : isSound 20 flags n ≡ false → none-found BadLayer ≡ resultUnder s e known waiting limit rule flags n
+  under-bad-layer bad = rw bad refl
+
+  pub under-bad-rule : isSound 20 flags n ≡ true → 2 ≤ rule → none-found BadRule ≡ resultUnder s e known waiting limit rule flags n
+  under-bad-rule sound more = rw (sound, le-ltb rule 2 more) refl
+
+  pub under-rule : isSound 20 flags n ≡ true → rule < 2 → searchOf s e known waiting limit rule (rowsOf 20 flags n) ≡ resultUnder s e known waiting limit rule flags n
+  under-rule sound less = rw (sound, lt-ltb rule 2 less) refl
+
+-- ---- the bytes of both ends
+
+module _ (s e : List ℕ) (known waiting limit rule : ℕ) (flags : List ℕ) (n : ℕ) where
+  abbrev result : CellAnswer → CellAnswer → Result
+  result a b = resultIn a b known waiting limit rule flags n
+
+  pub from-bad-start : (r : Refusal) → fromBytesOf s ≡ cell.Refused r → none-found r ≡ result (fromBytesOf s) (fromBytesOf e)
+  from-bad-start r f = ap (λ (a : CellAnswer). result a (fromBytesOf e)) (sym f)
+
+  pub from-bad-goal : (c : Cell) (r : Refusal) → fromBytesOf s ≡ cell.Is c → fromBytesOf e ≡ cell.Refused r → none-found r ≡ result (fromBytesOf s) (fromBytesOf e)
+  from-bad-goal c r f g = λ i. result (sym f i) (sym g i)
+
+  pub from-cells : (c d : Cell) → fromBytesOf s ≡ cell.Is c → fromBytesOf e ≡ cell.Is d → resultUnder c d known waiting limit rule flags n ≡ result (fromBytesOf s) (fromBytesOf e)
+  from-cells c d f g = λ i. result (sym f i) (sym g i)
+
+-- ---- the call
+
+-- zeros from the first byte to the last
+all-zeros : (w m : List ℕ) {exit : List ℕ} → length m ≡ length w → exit ≡ take 0 m ++ (replicate (length m - 0) 0 ++ drop (length m) m) → exit ≡ zeros w
+all-zeros w m long zeroed =
+    zeroed
+    ∙ ap (λ (rest : List ℕ). replicate (length m - 0) 0 ++ rest) (drop-length m)
+    ∙ append-nil (replicate (length m - 0) 0)
+    ∙ ap (λ (n : ℕ). replicate n 0) (sub-zero (length m) ∙ long)
+
+module _ (s e : List ℕ) (known waiting limit rule : ℕ) (flags : List ℕ) (n : ℕ) (w h l : List ℕ) where
+  abbrev answered : Changed SearchAnswer
+  answered = answeredIn (resultIn (fromBytesOf s) (fromBytesOf e) known waiting limit rule flags n) l
+
+  search-by-rooms : (b : Bool) → hasRooms known waiting w h ≡ b → searchIn s e known waiting limit rule flags n w h l ≡ cond b (wiped answered w h) (searched (answer.Refused BadWorkspace) w h l)
+  unfolding searchIn
+  search-by-rooms b f = ap (λ (roomy : Bool). cond roomy (wiped answered w h) (searched (answer.Refused BadWorkspace) w h l)) f
+
+  pub searched-bad : hasRooms known waiting w h ≡ false → searched (answer.Refused BadWorkspace) w h l ≡ searchIn s e known waiting limit rule flags n w h l
+  searched-bad f = sym (search-by-rooms false f)
+
+  pub searched-wiped : {said : SearchAnswer} {output known-exit waiting-exit : List ℕ} (m k : List ℕ) → hasRooms known waiting w h ≡ true → changed said output ≡ answered
+      → length m ≡ length w → known-exit ≡ take 0 m ++ (replicate (length m - 0) 0 ++ drop (length m) m)
+      → length k ≡ length h → waiting-exit ≡ take 0 k ++ (replicate (length k - 0) 0 ++ drop (length k) k)
+      → searched said known-exit waiting-exit output ≡ searchIn s e known waiting limit rule flags n w h l
+  searched-wiped {said} {output} m k f told long zeroed longer emptied =
+      (λ i. searched said (all-zeros w m long zeroed i) (all-zeros h k longer emptied i) output)
+      ∙ ap (λ (c : Changed SearchAnswer). wiped c w h) told
+      ∙ sym (search-by-rooms true f)

@@ -1,0 +1,334 @@
+// The whole search: from lent bytes to a route in a buffer.
+ghost use mathlib.Core.Path.{_≡_};
+ghost use mathlib.Core.Bool.{true};
+ghost use mathlib.Core.List.{[], _∷_};
+ghost use Prim.Native.Nat.{_*_, _≤_, _<_};
+ghost use lib.ListN.{length};
+ghost use Rattle.refusal.specs.Table.{rawOf};
+ghost use Rattle.cell.specs.Cell.{distanceCells};
+ghost use Rattle.cell.specs.Bytes.{fromBytesOf};
+ghost use Rattle.layer.specs.Layer.{isSound, rowsOf};
+ghost use Rattle.layer.specs.Changes.{changed};
+ghost use Rattle.known.specs.Known.{Roomy};
+ghost use Rattle.search.specs.Search.{begin, run, found};
+ghost use Rattle.search.specs.Plan.{distanceBits, resultOf, popsFor, searchOf};
+ghost use Rattle.astar.specs.State.{problemOf, Meets, Ran};
+ghost use Rattle.astar.specs.Answer.{answeredIn, resultShown, Ended};
+ghost use Rattle.astar.specs.Call.{isRoom, hasRooms, resultUnder, resultIn, searched, searchIn};
+ghost use Rattle.astar.specs.CallLaws.{Rooms};
+use crate::Estimate;
+use crate::Plan;
+use crate::Route;
+use crate::SearchAnswer;
+use crate::Sizes;
+use crate::Step;
+use crate::way;
+use cell::CellAnswer;
+use known::Found;
+use lattice::ParityAnswer;
+use refusal::Cell;
+use refusal::Refusal;
+use refusal::Room;
+use waiting::Entry;
+
+// The start is known and waits.
+fn begin(workspace: &mut [u8], heap: &mut [u8], flags: &[u8], count: usize, plan: Plan) -> Step
+    requires { ⌜ Roomy (now workspace) (plan .known) ⌝ }
+    requires { ⌜ (0 < plan .waiting) × (plan .waiting ≤ 65536) ⌝ }
+    requires { ⌜ 32 * plan .waiting ≤ length (now heap) ⌝ }
+    ensures { λ r. ⌜ Meets (problemOf plan (now (flags .entry)) count) plan (now (workspace .entry)) (now (heap .entry)) (now (workspace .exit)) (now (heap .exit)) r (begin (problemOf plan (now (flags .entry)) count) (distanceBits (distanceCells (plan .start) (plan .goal)))) ⌝ }
+{
+    let start = plan.start;
+    let goal = plan.goal;
+    match crate::ahead(start, goal) {
+        Estimate::Refused(r) => Step::Stopped(r),
+        Estimate::Bits(h) => {
+            rows::clear(workspace, plan.known);
+            rows::append(workspace, plan.known, 0, start, 0, 0);
+            waiting::push(
+                heap,
+                0,
+                Entry {
+                    f: h,
+                    cell: start,
+                    g: 0,
+                },
+            );
+            Step::Going(Sizes {
+                known: 1,
+                waiting: 1,
+                count: 0,
+            })
+        }
+    }
+}
+
+// From the start to the last step.
+fn run_from_start(
+    workspace: &mut [u8],
+    heap: &mut [u8],
+    flags: &[u8],
+    count: usize,
+    plan: Plan,
+) -> Step
+    requires { ⌜ Roomy (now workspace) (plan .known) ⌝ }
+    requires { ⌜ (0 < plan .waiting) × (plan .waiting ≤ 65536) ⌝ }
+    requires { ⌜ 32 * plan .waiting ≤ length (now heap) ⌝ }
+    requires { ⌜ isSound 20 (now flags) count ≡ true ⌝ }
+    ensures { λ r. ⌜ Ran (problemOf plan (now (flags .entry)) count) plan (now (workspace .entry)) (now (heap .entry)) (now (workspace .exit)) (now (heap .exit)) r (begin (problemOf plan (now (flags .entry)) count) (distanceBits (distanceCells (plan .start) (plan .goal)))) ⌝ }
+{
+    let first = begin(workspace, heap, flags, count, plan);
+    let Step::Going(sizes) = first else {
+        return first;
+    };
+    crate::run(workspace, heap, flags, count, plan, sizes)
+}
+
+// What a search that has ended says.
+fn end(
+    workspace: &[u8],
+    flags: &[u8],
+    count: usize,
+    plan: Plan,
+    step: Step,
+    output: &mut [u8],
+) -> SearchAnswer
+    requires { ⌜ Ended plan (now workspace) step ⌝ }
+    ensures { λ r. ⌜ changed r (now (output .exit)) ≡ answeredIn (resultShown (problemOf plan (now (flags .entry)) count) plan (now (workspace .entry)) step) (now (output .entry)) ⌝ }
+{
+    match step {
+        Step::Stopped(r) => SearchAnswer::Refused(r),
+        Step::Arrived(sizes) => {
+            let goal = plan.goal;
+            match rows::look(workspace, plan.known, sizes.known, goal) {
+                Found::At(i) => way::answer(workspace, plan, sizes, i, output),
+                // The goal is known.
+                Found::Nowhere => SearchAnswer::Refused(Refusal::BadWorkspace),
+            }
+        }
+        // A search that goes on has not ended.
+        Step::Going(_) => SearchAnswer::Refused(Refusal::BadWorkspace),
+    }
+}
+
+// Between two ends of one parity each that are not the same.
+fn between(
+    workspace: &mut [u8],
+    heap: &mut [u8],
+    flags: &[u8],
+    count: usize,
+    plan: Plan,
+    output: &mut [u8],
+) -> SearchAnswer
+    requires { ⌜ Roomy (now workspace) (plan .known) ⌝ }
+    requires { ⌜ (0 < plan .waiting) × (plan .waiting ≤ 65536) ⌝ }
+    requires { ⌜ 32 * plan .waiting ≤ length (now heap) ⌝ }
+    requires { ⌜ isSound 20 (now flags) count ≡ true ⌝ }
+    ensures { λ r. ⌜ changed r (now (output .exit)) ≡ answeredIn (resultOf (run (problemOf plan (now (flags .entry)) count) (popsFor (plan .known) (plan .waiting)) (begin (problemOf plan (now (flags .entry)) count) (distanceBits (distanceCells (plan .start) (plan .goal)))))) (now (output .entry)) ⌝ }
+    ensures { λ r. ⌜ length (now (workspace .exit)) ≡ length (now (workspace .entry)) ⌝ }
+    ensures { λ r. ⌜ length (now (heap .exit)) ≡ length (now (heap .entry)) ⌝ }
+{
+    let last = run_from_start(workspace, heap, flags, count, plan);
+    end(workspace, flags, count, plan, last, output)
+}
+
+// A route of one cell, which costs nothing.
+fn stay(c: Cell, output: &mut [u8]) -> SearchAnswer
+    ensures { λ r. ⌜ changed r (now (output .exit)) ≡ answeredIn (found (rawOf c ∷ []) 0 0) (now (output .entry)) ⌝ }
+{
+    if listing::room(output) == 0 {
+        return SearchAnswer::Refused(Refusal::NoRoom(Room::Output));
+    }
+    listing::put(output, 0, c);
+    SearchAnswer::Found(Route {
+        cells: 1,
+        cost: 0,
+        expansions: 0,
+    })
+}
+
+// The search between two cells.
+fn search(
+    workspace: &mut [u8],
+    heap: &mut [u8],
+    flags: &[u8],
+    count: usize,
+    plan: Plan,
+    output: &mut [u8],
+) -> SearchAnswer
+    requires { ⌜ Roomy (now workspace) (plan .known) ⌝ }
+    requires { ⌜ (0 < plan .waiting) × (plan .waiting ≤ 65536) ⌝ }
+    requires { ⌜ 32 * plan .waiting ≤ length (now heap) ⌝ }
+    requires { ⌜ isSound 20 (now flags) count ≡ true ⌝ }
+    ensures { λ r. ⌜ changed r (now (output .exit)) ≡ answeredIn (searchOf (plan .start) (plan .goal) (plan .known) (plan .waiting) (plan .limit) (plan .rule) (rowsOf 20 (now (flags .entry)) count)) (now (output .entry)) ⌝ }
+    ensures { λ r. ⌜ length (now (workspace .exit)) ≡ length (now (workspace .entry)) ⌝ }
+    ensures { λ r. ⌜ length (now (heap .exit)) ≡ length (now (heap .entry)) ⌝ }
+{
+    let start = plan.start;
+    let goal = plan.goal;
+    if cell::same(start, goal) {
+        return stay(start, output);
+    }
+    match lattice::parity_of(cell::coord(start)) {
+        ParityAnswer::Refused(r) => SearchAnswer::Refused(r),
+        ParityAnswer::Is(_) => match lattice::parity_of(cell::coord(goal)) {
+            ParityAnswer::Refused(r) => SearchAnswer::Refused(r),
+            ParityAnswer::Is(_) => between(workspace, heap, flags, count, plan, output),
+        },
+    }
+}
+
+// A room is named from 1 to 65,536.
+fn is_room(n: usize) -> bool
+    ensures { λ r. ⌜ r ≡ isRoom n ⌝ }
+{
+    if 1 <= n {
+        return n <= 65536;
+    }
+    false
+}
+
+fn has_rooms(known: usize, waiting: usize, workspace: &[u8], heap: &[u8]) -> bool
+    ensures { λ r. ⌜ r ≡ hasRooms known waiting (now (workspace .entry)) (now (heap .entry)) ⌝ }
+{
+    if is_room(known) {
+        if is_room(waiting) {
+            if 44 * known + 64 <= workspace.len() {
+                return 32 * waiting <= heap.len();
+            }
+        }
+    }
+    false
+}
+
+// The search in a flag layer, under a rule.
+fn search_in_layer(
+    workspace: &mut [u8],
+    heap: &mut [u8],
+    flags: &[u8],
+    count: usize,
+    plan: Plan,
+    output: &mut [u8],
+) -> SearchAnswer
+    requires { ⌜ Roomy (now workspace) (plan .known) ⌝ }
+    requires { ⌜ (0 < plan .waiting) × (plan .waiting ≤ 65536) ⌝ }
+    requires { ⌜ 32 * plan .waiting ≤ length (now heap) ⌝ }
+    ensures { λ r. ⌜ changed r (now (output .exit)) ≡ answeredIn (resultUnder (plan .start) (plan .goal) (plan .known) (plan .waiting) (plan .limit) (plan .rule) (now (flags .entry)) count) (now (output .entry)) ⌝ }
+    ensures { λ r. ⌜ length (now (workspace .exit)) ≡ length (now (workspace .entry)) ⌝ }
+    ensures { λ r. ⌜ length (now (heap .exit)) ≡ length (now (heap .entry)) ⌝ }
+{
+    if !layer::is_sound(flags, 20, count) {
+        return SearchAnswer::Refused(Refusal::BadLayer);
+    }
+    if plan.rule >= 2 {
+        return SearchAnswer::Refused(Refusal::BadRule);
+    }
+    search(workspace, heap, flags, count, plan, output)
+}
+
+// The search between the cells of some bytes, with rooms that suffice.
+fn search_from(
+    start: &[u8],
+    goal: &[u8],
+    known: usize,
+    waiting: usize,
+    limit: u64,
+    rule: u32,
+    flags: &[u8],
+    count: usize,
+    workspace: &mut [u8],
+    heap: &mut [u8],
+    output: &mut [u8],
+) -> SearchAnswer
+    requires { ⌜ Rooms known waiting (now workspace) (now heap) ⌝ }
+    ensures { λ r. ⌜ changed r (now (output .exit)) ≡ answeredIn (resultIn (fromBytesOf (now (start .entry))) (fromBytesOf (now (goal .entry))) known waiting limit rule (now (flags .entry)) count) (now (output .entry)) ⌝ }
+    ensures { λ r. ⌜ length (now (workspace .exit)) ≡ length (now (workspace .entry)) ⌝ }
+    ensures { λ r. ⌜ length (now (heap .exit)) ≡ length (now (heap .entry)) ⌝ }
+{
+    match cell::from_bytes(start) {
+        CellAnswer::Refused(r) => SearchAnswer::Refused(r),
+        CellAnswer::Is(s) => match cell::from_bytes(goal) {
+            CellAnswer::Refused(r) => SearchAnswer::Refused(r),
+            CellAnswer::Is(e) => {
+                let plan = Plan {
+                    start: s,
+                    goal: e,
+                    known,
+                    waiting,
+                    limit,
+                    rule,
+                };
+                search_in_layer(workspace, heap, flags, count, plan, output)
+            }
+        },
+    }
+}
+
+// The search, refused where it closes more cells than a limit. Both workspaces are zeroed when the call returns, whatever it answers, but for workspaces that are too small.
+pub fn astar_with_limit(
+    start: &[u8],
+    goal: &[u8],
+    known: usize,
+    waiting: usize,
+    limit: u64,
+    rule: u32,
+    flags: &[u8],
+    count: usize,
+    workspace: &mut [u8],
+    heap: &mut [u8],
+    output: &mut [u8],
+) -> SearchAnswer
+    ensures { λ r. ⌜ searched r (now (workspace .exit)) (now (heap .exit)) (now (output .exit)) ≡ searchIn (now (start .entry)) (now (goal .entry)) known waiting limit rule (now (flags .entry)) count (now (workspace .entry)) (now (heap .entry)) (now (output .entry)) ⌝ }
+{
+    if !has_rooms(known, waiting, workspace, heap) {
+        return SearchAnswer::Refused(Refusal::BadWorkspace);
+    }
+    let answer = search_from(
+        start,
+        goal,
+        known,
+        waiting,
+        limit,
+        rule,
+        flags,
+        count,
+        workspace,
+        heap,
+        output,
+    );
+    let size = workspace.len();
+    layer::records::zero(workspace, 0, size);
+    let entries = heap.len();
+    layer::records::zero(heap, 0, entries);
+    answer
+}
+
+// The search with a limit of 100,000.
+pub fn astar(
+    start: &[u8],
+    goal: &[u8],
+    known: usize,
+    waiting: usize,
+    rule: u32,
+    flags: &[u8],
+    count: usize,
+    workspace: &mut [u8],
+    heap: &mut [u8],
+    output: &mut [u8],
+) -> SearchAnswer
+    ensures { λ r. ⌜ searched r (now (workspace .exit)) (now (heap .exit)) (now (output .exit)) ≡ searchIn (now (start .entry)) (now (goal .entry)) known waiting 100000 rule (now (flags .entry)) count (now (workspace .entry)) (now (heap .entry)) (now (output .entry)) ⌝ }
+{
+    astar_with_limit(
+        start,
+        goal,
+        known,
+        waiting,
+        100_000,
+        rule,
+        flags,
+        count,
+        workspace,
+        heap,
+        output,
+    )
+}
