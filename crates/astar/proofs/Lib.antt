@@ -1,1 +1,2 @@
 pub mod Last
+mod OneAnswer
