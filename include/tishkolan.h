@@ -415,6 +415,56 @@ uint32_t tishkolan_route_choice(const uint8_t *sent, size_t sent_length,
                                 const uint8_t *flags, size_t flags_length, size_t flags_count,
                                 uint32_t rule);
 
+/* ---- the search.
+ * A* from start to goal, in the Rust's order, by the Euclidean distance to the goal: under the rule
+ * FREE over all cells, under AVOIDING over those that are not blocked in the flag layer (the start
+ * itself is not tested). Its route is one that tishkolan_route_verdict accepts with the cost it
+ * names. That no route is shorter is not claimed.
+ *
+ * It takes place in two workspaces that you lend, which may hold anything. You name the room for
+ * known cells, which are all that it has seen and not found blocked, and for waiting entries; a cell
+ * that is reached again at a lower cost waits once more. Each room is from 1 to 65,536.
+ * BAD_WORKSPACE, before anything else, where a room is another number or a workspace is shorter than
+ * its macro says; it leaves both as they were. Every other answer or refusal leaves all of both
+ * zero, also behind those bytes. */
+
+#define TISHKOLAN_SEARCH_KNOWN_BYTES(known) ((size_t)44 * (known) + 64)
+#define TISHKOLAN_SEARCH_WAITING_BYTES(waiting) ((size_t)32 * (waiting))
+
+/* A field that neither the answer nor the refusal has is 0. A cell of NO_PATH_FOUND is its 16 bytes
+ * as two big-endian numbers, high for the first eight. */
+typedef struct {
+    tishkolan_refusal refusal;
+    uint64_t cells;      /* of the route, 16 bytes each at the front of out */
+    uint64_t cost;       /* the route's, bits of a double */
+    uint64_t expansions; /* cells that were closed; also of SEARCH_LIMIT_EXCEEDED */
+    uint64_t limit;      /* of SEARCH_LIMIT_EXCEEDED */
+    uint64_t start_high, start_low, goal_high, goal_low; /* of NO_PATH_FOUND */
+} tishkolan_search_answer;
+
+/* A route that closes no more cells than limit. BAD_WORKSPACE; BAD_LIST of start, then of goal;
+ * BAD_LAYER; BAD_RULE. Equal ends are a route of that one cell, cost 0, though mixed or blocked.
+ * Then INVALID_PARITY of start, then of goal; COORD_OVERFLOW where start and goal are too far
+ * apart; and as the search meets them SEARCH_LIMIT_EXCEEDED with limit + 1 and limit, COORD_OVERFLOW
+ * (as of tishkolan_cell_neighbors, or of the distance of a neighbour to the goal), NO_ROOM 1 and 2;
+ * NO_PATH_FOUND once no cell waits; NO_ROOM 3 for a route that does not fit into out. */
+tishkolan_search_answer tishkolan_astar_with_limit(const uint8_t *start, size_t start_length,
+                                                   const uint8_t *goal, size_t goal_length,
+                                                   const uint8_t *flags, size_t flags_length, size_t flags_count,
+                                                   uint32_t rule, uint64_t limit, size_t known, size_t waiting,
+                                                   uint8_t *known_workspace, size_t known_workspace_length,
+                                                   uint8_t *waiting_workspace, size_t waiting_workspace_length,
+                                                   uint8_t *out, size_t out_length);
+
+/* The same with the limit 100,000. */
+tishkolan_search_answer tishkolan_astar(const uint8_t *start, size_t start_length,
+                                        const uint8_t *goal, size_t goal_length,
+                                        const uint8_t *flags, size_t flags_length, size_t flags_count,
+                                        uint32_t rule, size_t known, size_t waiting,
+                                        uint8_t *known_workspace, size_t known_workspace_length,
+                                        uint8_t *waiting_workspace, size_t waiting_workspace_length,
+                                        uint8_t *out, size_t out_length);
+
 #ifdef __cplusplus
 }
 #endif

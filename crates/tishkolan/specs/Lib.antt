@@ -5,3 +5,4 @@ pub mod Layers
 pub mod Aggregates
 pub mod Surveys
 pub mod Rings
+pub mod Searches

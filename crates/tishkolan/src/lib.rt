@@ -7,5 +7,6 @@ pub mod paths;
 pub mod points;
 pub mod rings;
 pub mod routes;
+pub mod searches;
 pub mod surveys;
 pub mod told;

@@ -96,6 +96,20 @@ pub struct LengthTold {
     pub length: u64,
 }
 
+// A route's cells, the bits of its cost and the expansions that found it; the expansions and the limit of SearchLimitExceeded; the ends of NoPathFound.
+#[repr(C)]
+pub struct SearchTold {
+    pub refusal: RefusalTold,
+    pub cells: u64,
+    pub cost: u64,
+    pub expansions: u64,
+    pub limit: u64,
+    pub start_high: u64,
+    pub start_low: u64,
+    pub goal_high: u64,
+    pub goal_low: u64,
+}
+
 const NOWHERE: Coord = Coord { x: 0, y: 0, z: 0 };
 
 fn telling(number: u32, room: u32, place: Coord) -> RefusalTold
