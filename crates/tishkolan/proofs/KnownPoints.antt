@@ -1,4 +1,4 @@
--- The points of the scope document's section "Known points" that are marked P and can be stated so far, in its order, as one table: each row is an equation of two values that compute. Assumes nothing.
+-- The points of the scope document's section "Known points" that are marked P, in its order, as one table: each row is an equation of two values that compute. Assumes nothing.
 use mathlib.Core.Path.{_≡_, refl}
 use mathlib.Core.Bool.{true, false}
 use mathlib.Core.List.{[], _∷_}
@@ -14,6 +14,7 @@ use Rattle.snap.specs.Snap.{point, snapOf}
 use Rattle.words.specs.Word.{lowDigits, ordered, bytesOf}
 use Rattle.cell.specs.Cell.{packed}
 use Rattle.cell.specs.Bytes.{cellBytes}
+use Rattle.search.proofs.Points.{OpenSearches, searches-free, searches-avoiding}
 
 abbrev nought : Float
 nought = fin false 0 (pos 0)
@@ -39,6 +40,9 @@ pub record KnownPoints : Type 0 where
   pub past : snapOf (point (fin false 4294967293 (negsuc 0)) nought nought) 0 ≡ Refused OutOfRange
   -- root of 3.0: 0x3FFBB67AE8584CAA
   pub root-of-three : rootBitsOf 0x4008_0000_0000_0000 ≡ root.Bits 0x3FFB_B67A_E858_4CAA
+  -- (0,0,0) to (2,2,0), plain, open: the route, its cost and its expansions; limits 2 and 0; under either rule
+  pub free : OpenSearches 0
+  pub avoiding : OpenSearches 1
 
 pub known-points : KnownPoints
 unfolding cellBytes bytesOf lowDigits ordered packed isLatticePoint parityOf parentOf snapOf rootBitsOf ofBits toBits
@@ -54,4 +58,6 @@ known-points =
       last = refl;
       past = refl;
       root-of-three = refl;
+      free = searches-free;
+      avoiding = searches-avoiding;
     }
