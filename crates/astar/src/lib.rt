@@ -2,6 +2,7 @@
 ghost use mathlib.Core.Path.{_≡_};
 ghost use mathlib.Core.Bool.{true, false};
 ghost use mathlib.Core.List.{map};
+ghost use mathlib.Core.Option.{none, some};
 ghost use Prim.Native.Nat.{ℕ, _<_};
 ghost use lib.Ieee.{binary64, toBits};
 ghost use Rattle.refusal.specs.Table.{rawOf};
@@ -10,7 +11,7 @@ ghost use Rattle.layer.specs.Layer.{isSound};
 ghost use Rattle.route.specs.Route.{costBetween};
 ghost use Rattle.known.specs.Known.{cellIn};
 ghost use Rattle.rows.specs.Rows.{rowIn};
-ghost use Rattle.search.specs.Search.{going, plus, less, push, relax, relaxAll, entered, step};
+ghost use Rattle.search.specs.Search.{going, plus, less, push, tried, relax, relaxAll, entered, step};
 ghost use Rattle.search.specs.Plan.{distanceBits};
 ghost use Rattle.astar.specs.State.{problemOf, stateIn, Cost, Good, Meets, Ran};
 ghost use Rattle.astar.specs.Estimate.{toldAhead, SoundAhead};
@@ -183,7 +184,72 @@ fn fresh(
     }
 }
 
+// A way of cost t from the cell of record `at` to the cell n, which is known, in record i.
+fn reach_known(
+    workspace: &mut [u8],
+    heap: &mut [u8],
+    flags: &[u8],
+    count: usize,
+    plan: Plan,
+    sizes: Sizes,
+    at: usize,
+    i: usize,
+    n: Cell,
+    t: u64,
+) -> Step
+    requires { ⌜ Good plan (now workspace) (now heap) sizes ⌝ }
+    requires { ⌜ isSound 20 (now flags) count ≡ true ⌝ }
+    requires { ⌜ Cost t ⌝ }
+    requires { ⌜ at < sizes .known ⌝ }
+    requires { ⌜ i < sizes .known ⌝ }
+    requires { ⌜ cellIn (now workspace) (plan .known) i ≡ n ⌝ }
+    ensures { λ r. ⌜ Meets (problemOf plan (now (flags .entry)) count) plan (now (workspace .entry)) (now (heap .entry)) (now (workspace .exit)) (now (heap .exit)) r (tried (problemOf plan (now (flags .entry)) count) (rawOf (cellIn (now (workspace .entry)) (plan .known) at)) (rawOf n) t (stateIn plan (now (workspace .entry)) (now (heap .entry)) sizes) (some (rowIn (now (workspace .entry)) (plan .known) i))) ⌝ }
+{
+    if rows::is_closed(workspace, plan.known, sizes.known, i) {
+        return Step::Going(sizes);
+    }
+    if less(t, rows::g_at(workspace, plan.known, sizes.known, i)) {
+        // Asked last: it costs most, and few ways are shorter.
+        if route::is_shut(flags, count, plan.rule, n) {
+            return Step::Going(sizes);
+        }
+        return renew(workspace, heap, flags, count, plan, sizes, at, i, t);
+    }
+    Step::Going(sizes)
+}
+
 const INFINITY: u64 = 0x7FF0_0000_0000_0000;
+
+// The same to a cell that is not known.
+fn reach_new(
+    workspace: &mut [u8],
+    heap: &mut [u8],
+    flags: &[u8],
+    count: usize,
+    plan: Plan,
+    sizes: Sizes,
+    at: usize,
+    n: Cell,
+    t: u64,
+) -> Step
+    requires { ⌜ Good plan (now workspace) (now heap) sizes ⌝ }
+    requires { ⌜ isSound 20 (now flags) count ≡ true ⌝ }
+    requires { ⌜ Cost t ⌝ }
+    requires { ⌜ at < sizes .known ⌝ }
+    requires { ⌜ ((j : ℕ) → j < sizes .known → cellIn (now workspace) (plan .known) j ≡ n → ⊥) ⌝ }
+    ensures { λ r. ⌜ Meets (problemOf plan (now (flags .entry)) count) plan (now (workspace .entry)) (now (heap .entry)) (now (workspace .exit)) (now (heap .exit)) r (tried (problemOf plan (now (flags .entry)) count) (rawOf (cellIn (now (workspace .entry)) (plan .known) at)) (rawOf n) t (stateIn plan (now (workspace .entry)) (now (heap .entry)) sizes) none) ⌝ }
+{
+    if route::is_shut(flags, count, plan.rule, n) {
+        return Step::Going(sizes);
+    }
+    if less(t, INFINITY) {
+        if sizes.known >= plan.known {
+            return Step::Stopped(Refusal::NoRoom(Room::Known));
+        }
+        return fresh(workspace, heap, flags, count, plan, sizes, at, n, t);
+    }
+    Step::Going(sizes)
+}
 
 // One neighbour of the cell of record `at`, which has the cost g.
 fn relax(
@@ -206,30 +272,8 @@ fn relax(
     let c = known::cell_at(workspace, plan.known, at);
     let t = plus(g, cost(c, n));
     match rows::look(workspace, plan.known, sizes.known, n) {
-        Found::At(i) => {
-            if rows::is_closed(workspace, plan.known, sizes.known, i) {
-                return Step::Going(sizes);
-            }
-            if route::is_shut(flags, count, plan.rule, n) {
-                return Step::Going(sizes);
-            }
-            if less(t, rows::g_at(workspace, plan.known, sizes.known, i)) {
-                return renew(workspace, heap, flags, count, plan, sizes, at, i, t);
-            }
-            Step::Going(sizes)
-        }
-        Found::Nowhere => {
-            if route::is_shut(flags, count, plan.rule, n) {
-                return Step::Going(sizes);
-            }
-            if less(t, INFINITY) {
-                if sizes.known >= plan.known {
-                    return Step::Stopped(Refusal::NoRoom(Room::Known));
-                }
-                return fresh(workspace, heap, flags, count, plan, sizes, at, n, t);
-            }
-            Step::Going(sizes)
-        }
+        Found::At(i) => reach_known(workspace, heap, flags, count, plan, sizes, at, i, n, t),
+        Found::Nowhere => reach_new(workspace, heap, flags, count, plan, sizes, at, n, t),
     }
 }
 
