@@ -4,8 +4,8 @@
 //! Why it is sound: of every call it is proved that, for all numbers, bytes and lengths, it reads and
 //! writes no other elements than those which a pointer and the length beside it name. Here each such
 //! pair is of one slice, which is borrowed while the call lasts, as `&mut` where the call writes, so
-//! that no two overlap of which one is written. What is handed back is numbers; every pattern of bits
-//! is a value of each field.
+//! that a slice which is written overlaps no other. What is handed back is numbers, for which every
+//! pattern of bits is a value, or C's bool. The structs are those of the header, field by field.
 
 use crate::{Cell, Coord};
 

@@ -1,3 +1,4 @@
+#![cfg(target_arch = "x86_64")]
 //! Tishkolan for Rust: cells of a body-centred cubic lattice, layers of what is kept of them, survey
 //! files, rings, lines, the route checker and the search.
 //!
@@ -27,7 +28,6 @@
 //! assert_eq!(route_verdict(&claim, &flags, Rule::Avoiding), Verdict::BlockedCell);
 //! # Ok::<(), Refusal>(())
 //! ```
-#![cfg(target_arch = "x86_64")]
 #![deny(missing_docs)]
 #![deny(unsafe_op_in_unsafe_fn)]
 #![deny(unsafe_code)]

@@ -49,7 +49,26 @@ pub struct RingWorkspace<'w> {
     pub buffer: &'w mut [u8],
 }
 
-impl RingWorkspace<'_> {
+/// No workspace has more room than this.
+pub(crate) const fn most(room: usize) -> usize {
+    if room < 65_536 {
+        room
+    } else {
+        65_536
+    }
+}
+
+impl<'w> RingWorkspace<'w> {
+    /// This buffer with all the room that it has for known cells, 65,536 at most, and as much for waiting ones.
+    pub const fn new(buffer: &'w mut [u8]) -> RingWorkspace<'w> {
+        let known = most(buffer.len() / 44);
+        RingWorkspace {
+            known,
+            waiting: known,
+            buffer,
+        }
+    }
+
     /// The bytes of a buffer with room for so many known cells.
     pub const fn bytes(known: usize) -> usize {
         known.saturating_mul(44)
@@ -66,7 +85,7 @@ impl RingWorkspace<'_> {
 /// use tishkolan::{k_ring, k_shell, Cell, Coord, Refusal, RingWorkspace};
 ///
 /// let mut buffer = [0; RingWorkspace::bytes(65)];
-/// let mut workspace = RingWorkspace { known: 65, waiting: 50, buffer: &mut buffer };
+/// let mut workspace = RingWorkspace::new(&mut buffer);
 /// let center = Cell::from_coords(0, 3, Coord::new(0, 0, 0))?;
 /// let mut out = [Cell::default(); 65];
 ///

@@ -1,7 +1,8 @@
 //! The search for a route.
 
 use crate::face;
-use crate::{Cell, FlagLayer, Refusal, Rule};
+use crate::listing::most;
+use crate::{Cell, Claim, FlagLayer, Refusal, Rule};
 
 /// What is lent to a search: two buffers, which may hold anything, and the rooms that they have.
 ///
@@ -22,7 +23,20 @@ pub struct SearchWorkspace<'w> {
     pub waiting_buffer: &'w mut [u8],
 }
 
-impl SearchWorkspace<'_> {
+impl<'w> SearchWorkspace<'w> {
+    /// These buffers with all the rooms that they have, 65,536 of each at most.
+    pub const fn new(
+        known_buffer: &'w mut [u8],
+        waiting_buffer: &'w mut [u8],
+    ) -> SearchWorkspace<'w> {
+        SearchWorkspace {
+            known: most(known_buffer.len().saturating_sub(64) / 44),
+            waiting: most(waiting_buffer.len() / 32),
+            known_buffer,
+            waiting_buffer,
+        }
+    }
+
     /// The bytes of a buffer with room for so many known cells.
     pub const fn known_bytes(known: usize) -> usize {
         known.saturating_mul(44).saturating_add(64)
@@ -53,6 +67,18 @@ pub struct Route<'o> {
     pub expansions: u64,
 }
 
+impl<'o> Route<'o> {
+    /// What is claimed of this route, for the checker: that it leads from one cell to another, at its cost.
+    pub const fn claim(&self, start: Cell, goal: Cell) -> Claim<'o> {
+        Claim {
+            route: self.cells,
+            start,
+            goal,
+            cost: self.cost,
+        }
+    }
+}
+
 fn found(said: face::SearchAnswer, out: &[Cell]) -> Result<Route<'_>, Refusal> {
     said.answer()?;
     Ok(Route {
@@ -65,7 +91,7 @@ fn found(said: face::SearchAnswer, out: &[Cell]) -> Result<Route<'_>, Refusal> {
 /// A route from start to goal that closes no more cells than 100,000: as [`astar_with_limit`].
 ///
 /// ```
-/// use tishkolan::{astar, route_verdict, Cell, Claim, Coord, FlagLayer, Refusal, Rule, SearchWorkspace, Verdict};
+/// use tishkolan::{astar, route_verdict, Cell, Coord, FlagLayer, Refusal, Rule, SearchWorkspace, Verdict};
 ///
 /// let at = |x, y, z| Cell::from_coords(0, 3, Coord::new(x, y, z)).unwrap();
 /// let (start, goal) = (at(0, 0, 0), at(2, 2, 0));
@@ -82,7 +108,7 @@ fn found(said: face::SearchAnswer, out: &[Cell]) -> Result<Route<'_>, Refusal> {
 /// assert_eq!(found.cells, [start, at(1, 1, 1), goal]);
 /// assert_eq!((found.cost.to_bits(), found.expansions), (0x400B_B67A_E858_4CAA, 3));
 ///
-/// let claim = Claim { route: found.cells, start, goal, cost: found.cost };
+/// let claim = found.claim(start, goal);
 /// assert_eq!(route_verdict(&claim, &flags, Rule::Avoiding), Verdict::Accepted);
 /// # Ok::<(), Refusal>(())
 /// ```

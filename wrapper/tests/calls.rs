@@ -331,6 +331,75 @@ fn rings_and_shells() {
 }
 
 #[test]
+fn all_the_rooms_of_buffers() {
+    for (room, bytes) in [
+        (0, 0),
+        (0, RingWorkspace::bytes(1) - 1),
+        (7, RingWorkspace::bytes(7)),
+        (65_536, RingWorkspace::bytes(65_536)),
+        (65_536, RingWorkspace::bytes(65_537)),
+    ] {
+        let mut buffer = vec![0xA5; bytes];
+        let mut workspace = RingWorkspace::new(&mut buffer);
+        assert_eq!((workspace.known, workspace.waiting), (room, room));
+        let said =
+            k_ring(&at(0, 0, 0), 0, &mut workspace, &mut [Cell::default()]).map(<[Cell]>::len);
+        assert_eq!(
+            said,
+            if room == 0 {
+                Err(Refusal::BadWorkspace)
+            } else {
+                Ok(1)
+            }
+        );
+    }
+    for (known, waiting, known_bytes, waiting_bytes) in [
+        (0, 0, 0, 0),
+        (
+            0,
+            3,
+            SearchWorkspace::known_bytes(1) - 1,
+            SearchWorkspace::waiting_bytes(3),
+        ),
+        (
+            3,
+            0,
+            SearchWorkspace::known_bytes(3),
+            SearchWorkspace::waiting_bytes(1) - 1,
+        ),
+        (
+            1,
+            2,
+            SearchWorkspace::known_bytes(2) - 1,
+            SearchWorkspace::waiting_bytes(2),
+        ),
+        (
+            65_536,
+            65_536,
+            SearchWorkspace::known_bytes(65_537),
+            SearchWorkspace::waiting_bytes(65_537),
+        ),
+    ] {
+        let mut buffers = (vec![0xA5; known_bytes], vec![0xA5; waiting_bytes]);
+        let mut workspace = SearchWorkspace::new(&mut buffers.0, &mut buffers.1);
+        assert_eq!((workspace.known, workspace.waiting), (known, waiting));
+        let flags = FlagLayer::new(&mut []);
+        let here = at(0, 0, 0);
+        let mut out = [Cell::default()];
+        let said = astar(&here, &here, &flags, Rule::Free, &mut workspace, &mut out)
+            .map(|found| found.expansions);
+        assert_eq!(
+            said,
+            if known * waiting == 0 {
+                Err(Refusal::BadWorkspace)
+            } else {
+                Ok(0)
+            }
+        );
+    }
+}
+
+#[test]
 fn routes() {
     let route = [at(0, 0, 0), at(1, 1, 1), at(2, 2, 0)];
     let back = [at(2, 2, 0), at(1, 1, -1), at(0, 0, 0)];
@@ -451,12 +520,7 @@ fn searches() {
         &mut out,
     )
     .unwrap();
-    let claim = Claim {
-        route: found.cells,
-        start,
-        goal,
-        cost: found.cost,
-    };
+    let claim = found.claim(start, goal);
     assert_eq!(found.cells, [start, at(1, 1, -1), goal]);
     assert_eq!(
         route_verdict(&claim, &flags, Rule::Avoiding),
