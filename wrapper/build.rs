@@ -35,7 +35,9 @@ fn installed() -> Option<PathBuf> {
         .args(["--variable=libdir", "tishkolan"])
         .output()
         .ok()?;
-    let folder = PathBuf::from(String::from_utf8(said.stdout).ok()?.trim_end());
+    // It writes a space in a path with a backslash before it.
+    let folder = String::from_utf8(said.stdout).ok()?.replace("\\ ", " ");
+    let folder = PathBuf::from(folder.trim_end());
     (said.status.success() && folder.join(ARCHIVE).is_file()).then_some(folder)
 }
 

@@ -78,6 +78,7 @@ fn lattice_points() {
     assert_eq!(odd.parity(), Ok(Parity::Odd));
     assert_eq!(Parity::Even.opposite(), Parity::Odd);
     assert_eq!(Parity::Odd.opposite(), Parity::Even);
+    assert_eq!((Parity::Even as u32, Parity::Odd as u32), (0, 1));
     assert!(even.is_valid_lattice_point() && odd.is_valid_lattice_point());
     assert!(!Coord::new(0, 1, 0).is_valid_lattice_point());
 

@@ -46,6 +46,17 @@ fn invalid_parity() {
         trace_line(&cell, &at(0, 0, 0), &mut [Cell::default(); 4]),
         Err(MIXED)
     );
+
+    // Of two, the first is told.
+    let mut second = at(0, 0, 0);
+    second.0[3] = 1;
+    assert_eq!(cell.between(&second), Err(MIXED));
+    assert_eq!(cell.distance(&second), Err(MIXED));
+    assert_eq!(cell.manhattan_distance(&second), Err(MIXED));
+    assert_eq!(
+        trace_line(&cell, &second, &mut [Cell::default(); 4]),
+        Err(MIXED)
+    );
 }
 
 #[test]
@@ -104,11 +115,19 @@ fn coord_overflow() {
     assert_eq!(edge.children(), Err(Refusal::CoordOverflow));
     assert_eq!(edge.distance(lowest), Err(Refusal::CoordOverflow));
     assert_eq!(edge.manhattan_distance(lowest), Err(Refusal::CoordOverflow));
+    // The first less the second is what must fit, and the first is tested first.
+    let (zero, other) = (Coord::new(0, 0, 0), Coord::new(1, 0, 0));
+    assert_eq!(lowest.distance(zero), Ok(2147483648.0));
+    assert_eq!(zero.distance(lowest), Err(Refusal::CoordOverflow));
+    assert_eq!(Coord::new(0, 1, 0).distance(other), Err(MIXED));
+    assert_eq!(Coord::new(0, 1, 0).manhattan_distance(other), Err(MIXED));
     let (edge, lowest) = (at(edge.x, 0, 0), at(lowest.x, 0, 0));
     assert_eq!(edge.neighbors(), Err(Refusal::CoordOverflow));
     assert_eq!(edge.children(), Err(Refusal::CoordOverflow));
     assert_eq!(edge.between(&lowest), Err(Refusal::CoordOverflow));
     assert_eq!(edge.distance(&lowest), Err(Refusal::CoordOverflow));
+    assert_eq!(lowest.distance(&at(0, 0, 0)), Ok(2147483648.0));
+    assert_eq!(at(0, 0, 0).distance(&lowest), Err(Refusal::CoordOverflow));
     assert_eq!(
         edge.manhattan_distance(&lowest),
         Err(Refusal::CoordOverflow)
