@@ -1,0 +1,53 @@
+#![cfg(target_arch = "x86_64")]
+//! Tishkolan for Rust: cells of a body-centred cubic lattice, layers of what is kept of them, survey
+//! files, rings, lines, the route checker and the search.
+//!
+//! Each function is one call of include/tishkolan.h, whose answers and refusals are proved; this crate
+//! is not proved but tested. It hands slices over and makes enums of numbers, and does nothing
+//! else. Nothing is allocated: you lend the tables of layers, the workspaces of rings and searches and
+//! the buffers of answers. A call answers, or refuses with a [`Refusal`], for all values of its
+//! arguments, and it ends.
+//!
+//! The library is x86-64 code; for another target the crate is empty. The archive libtishkolan.a is
+//! looked for in the folder that `TISHKOLAN_LIBRARY_DIR` names, then where `pkg-config` says, then in
+//! target/staticlib of the repository.
+//!
+//! ```
+//! use tishkolan::{route_verdict, Cell, Claim, FlagLayer, Flags, Point, Refusal, Rule, Verdict};
+//!
+//! // A laser point strikes a cell ahead.
+//! let mut table = [0; FlagLayer::bytes(1024)];
+//! let mut flags = FlagLayer::new(&mut table);
+//! let struck = Cell::from_coords(0, 3, Point::new(0.13, 0.12, 0.13).to_lattice(3)?)?;
+//! flags.set(&struck, Flags::BLOCKED)?;
+//!
+//! // The next pass of the flight loop says so.
+//! let start = Cell::from_coords(0, 3, Point::new(0.0, 0.0, 0.0).to_lattice(3)?)?;
+//! let route = [start, struck];
+//! let claim = Claim { route: &route, start, goal: struck, cost: start.distance(&struck)? };
+//! assert_eq!(route_verdict(&claim, &flags, Rule::Avoiding), Verdict::BlockedCell);
+//! # Ok::<(), Refusal>(())
+//! ```
+#![deny(missing_docs)]
+#![deny(unsafe_op_in_unsafe_fn)]
+#![deny(unsafe_code)]
+
+mod cell;
+#[allow(unsafe_code)]
+mod face;
+mod lattice;
+mod layer;
+mod listing;
+mod refusal;
+mod route;
+mod search;
+mod survey;
+
+pub use cell::{Cell, Fields};
+pub use lattice::{square_root, Coord, Parity, Point};
+pub use layer::{Aggregate, FlagLayer, Flags, Kept, Layer, Records, ValueLayer, MOST_CELLS};
+pub use listing::{k_ring, k_shell, trace_line, RingWorkspace};
+pub use refusal::{Refusal, Room};
+pub use route::{route_choice, route_verdict, Choice, Claim, Rule, Verdict};
+pub use search::{astar, astar_with_limit, Route, SearchWorkspace};
+pub use survey::{load_survey, survey_bytes, write_survey};

@@ -1,0 +1,224 @@
+//! What a call says where it does not answer.
+
+use std::fmt;
+
+use crate::face::{LoadAnswer, SearchAnswer, Told};
+use crate::Cell;
+
+/// Which room a call would have needed more of.
+#[derive(Clone, Copy, PartialEq, Eq, Hash, Debug)]
+pub enum Room {
+    /// For known cells of a ring or a search.
+    Known = 1,
+    /// For waiting cells of a ring, or waiting entries of a search.
+    Waiting = 2,
+    /// In the buffer for the answer.
+    Output = 3,
+    /// In the table of a layer.
+    Layer = 4,
+}
+
+/// Why a call did not answer. A call that refuses changes no layer and no output.
+///
+/// Some refusals of the library cannot be met through this crate, because its types leave no way to
+/// ask for them: a rule or an aggregate that is none, or a cell of another length than 16 bytes.
+///
+/// ```
+/// use tishkolan::{Coord, Refusal};
+///
+/// let refused = Coord::new(0, 1, 0).parent().unwrap_err();
+/// assert_eq!(refused, Refusal::InvalidParity { x: 0, y: 1, z: 0 });
+/// assert_eq!(refused.number(), 1);
+/// assert_eq!(refused.to_string(), "the coordinates (0, 1, 0) are neither all even nor all odd");
+/// ```
+#[derive(Clone, Copy, PartialEq, Eq, Hash, Debug)]
+pub enum Refusal {
+    /// The coordinates of this point are neither all even nor all odd.
+    InvalidParity {
+        /// The point's x.
+        x: i32,
+        /// The point's y.
+        y: i32,
+        /// The point's z.
+        z: i32,
+    },
+    /// A cell of resolution 0 has no parent, and no cell has an ancestor of a finer resolution.
+    NoParent,
+    /// A cell of resolution 255 has no children.
+    NoChildren,
+    /// A number is outside what the call takes.
+    OutOfRange,
+    /// There is no value to aggregate.
+    NoValues,
+    /// A value to aggregate is a NaN.
+    HasNan,
+    /// The search would have closed more cells than its limit.
+    SearchLimitExceeded {
+        /// The cells closed, the one that was too many included.
+        expansions: u64,
+        /// The limit that was given.
+        limit: u64,
+    },
+    /// No route leads from one end to the other.
+    NoPathFound {
+        /// Where the search began.
+        start: Cell,
+        /// Where it was to end.
+        goal: Cell,
+    },
+    /// A coordinate, or a difference of two, leaves the 32-bit numbers.
+    CoordOverflow,
+    /// What was lent is full.
+    NoRoom(Room),
+    /// The rooms of a workspace are not from 1 to 65,536, or its buffers are too short for them.
+    BadWorkspace,
+    /// The bytes are not a survey file.
+    BadFile {
+        /// The byte at which that was seen.
+        place: u64,
+    },
+    /// The number of bytes of a list of cells is not a multiple of 16.
+    BadList,
+    /// The records of a table, as many as its count says, are not those of a layer.
+    BadLayer,
+    /// The rule is neither of the two.
+    BadRule,
+    /// A number that this crate does not know: the archive is another version's.
+    Other(u32),
+}
+
+impl Refusal {
+    /// The refusal's number in include/tishkolan.h.
+    pub const fn number(&self) -> u32 {
+        match self {
+            Refusal::InvalidParity { .. } => 1,
+            Refusal::NoParent => 2,
+            Refusal::NoChildren => 3,
+            Refusal::OutOfRange => 4,
+            Refusal::NoValues => 5,
+            Refusal::HasNan => 6,
+            Refusal::SearchLimitExceeded { .. } => 7,
+            Refusal::NoPathFound { .. } => 8,
+            Refusal::CoordOverflow => 9,
+            Refusal::NoRoom(_) => 10,
+            Refusal::BadWorkspace => 11,
+            Refusal::BadFile { .. } => 12,
+            Refusal::BadList => 13,
+            Refusal::BadLayer => 14,
+            Refusal::BadRule => 15,
+            Refusal::Other(number) => *number,
+        }
+    }
+
+    /// What was told, unless that is an answer or carries more than `Told` has.
+    fn of(told: Told) -> Refusal {
+        match told.number {
+            1 => Refusal::InvalidParity {
+                x: told.x,
+                y: told.y,
+                z: told.z,
+            },
+            2 => Refusal::NoParent,
+            3 => Refusal::NoChildren,
+            4 => Refusal::OutOfRange,
+            5 => Refusal::NoValues,
+            6 => Refusal::HasNan,
+            9 => Refusal::CoordOverflow,
+            10 => match told.room {
+                1 => Refusal::NoRoom(Room::Known),
+                2 => Refusal::NoRoom(Room::Waiting),
+                3 => Refusal::NoRoom(Room::Output),
+                4 => Refusal::NoRoom(Room::Layer),
+                _ => Refusal::Other(10),
+            },
+            11 => Refusal::BadWorkspace,
+            13 => Refusal::BadList,
+            14 => Refusal::BadLayer,
+            15 => Refusal::BadRule,
+            number => Refusal::Other(number),
+        }
+    }
+}
+
+impl Told {
+    /// The answer, or the refusal in its place.
+    pub(crate) fn answer<T>(self, answer: T) -> Result<T, Refusal> {
+        match self.number {
+            0 => Ok(answer),
+            _ => Err(Refusal::of(self)),
+        }
+    }
+}
+
+impl LoadAnswer {
+    pub(crate) fn answer(&self) -> Result<(), Refusal> {
+        match self.refusal.number {
+            12 => Err(Refusal::BadFile { place: self.place }),
+            _ => self.refusal.answer(()),
+        }
+    }
+}
+
+impl SearchAnswer {
+    pub(crate) fn answer(&self) -> Result<(), Refusal> {
+        match self.refusal.number {
+            7 => Err(Refusal::SearchLimitExceeded {
+                expansions: self.expansions,
+                limit: self.limit,
+            }),
+            8 => Err(Refusal::NoPathFound {
+                start: Cell::of_words(self.start_high, self.start_low),
+                goal: Cell::of_words(self.goal_high, self.goal_low),
+            }),
+            _ => self.refusal.answer(()),
+        }
+    }
+}
+
+impl fmt::Display for Refusal {
+    fn fmt(&self, to: &mut fmt::Formatter<'_>) -> fmt::Result {
+        match self {
+            Refusal::InvalidParity { x, y, z } => {
+                write!(
+                    to,
+                    "the coordinates ({x}, {y}, {z}) are neither all even nor all odd"
+                )
+            }
+            Refusal::NoParent => to.write_str("the cell has no parent"),
+            Refusal::NoChildren => to.write_str("the cell has no children"),
+            Refusal::OutOfRange => to.write_str("a number is out of range"),
+            Refusal::NoValues => to.write_str("there are no values"),
+            Refusal::HasNan => to.write_str("a value is a NaN"),
+            Refusal::SearchLimitExceeded { expansions, limit } => {
+                write!(
+                    to,
+                    "the search closed {expansions} cells, its limit is {limit}"
+                )
+            }
+            Refusal::NoPathFound { start, goal } => {
+                write!(to, "there is no route from {start:?} to {goal:?}")
+            }
+            Refusal::CoordOverflow => {
+                to.write_str("a coordinate or a difference of two leaves the 32-bit numbers")
+            }
+            Refusal::NoRoom(Room::Known) => to.write_str("there is no room for another known cell"),
+            Refusal::NoRoom(Room::Waiting) => {
+                to.write_str("there is no room for another waiting entry")
+            }
+            Refusal::NoRoom(Room::Output) => to.write_str("the answer does not fit its buffer"),
+            Refusal::NoRoom(Room::Layer) => to.write_str("the layer is full"),
+            Refusal::BadWorkspace => {
+                to.write_str("the workspace does not have the rooms that were named")
+            }
+            Refusal::BadFile { place } => write!(to, "not a survey file, seen at byte {place}"),
+            Refusal::BadList => to.write_str("the bytes are not a list of cells"),
+            Refusal::BadLayer => to.write_str("the table and its count are not a layer"),
+            Refusal::BadRule => to.write_str("the rule is neither of the two"),
+            Refusal::Other(number) => {
+                write!(to, "refusal {number}, which this crate does not know")
+            }
+        }
+    }
+}
+
+impl std::error::Error for Refusal {}
