@@ -1,7 +1,7 @@
 /* A flight loop in C. Each pass judges what it is about to fly against the layer as it stands now. */
 #include <stdio.h>
 
-#include "../include/tishkolan.h"
+#include <tishkolan.h>
 
 enum { CELL = TISHKOLAN_CELL_BYTES, STEPS = 3 };
 
@@ -24,7 +24,7 @@ int main(void)
             route + CELL * here, (size_t)(STEPS - here) * CELL, route + CELL * here, CELL,
             route + CELL * (STEPS - 1), CELL, tishkolan_bits_of(cost[here]),
             flags, sizeof flags, blocked, TISHKOLAN_AVOIDING);
-        printf("pass %d: verdict %u\n", here, verdict);
+        printf("pass %d: %s\n", here, tishkolan_verdict_name(verdict));
         if (verdict != TISHKOLAN_ACCEPTED)
             break; /* hover */
     }
