@@ -1,12 +1,20 @@
 /* Tishkolan: cells of a body-centred cubic lattice, each call proved.
  *
- * Every call takes all numbers, bytes and lengths, ends, and answers or refuses.
+ * Every call takes all numbers, bytes and lengths, ends, and answers or refuses. It keeps nothing
+ * between calls, allocates nothing and calls nothing; what it needs, you lend.
+ *
  * A cell is 16 bytes, big-endian: z, y, x (32 bits each, two's complement), then
  * reserved (4 bits), flags (8), exponent (4), resolution (8), frame (8).
  * A double crosses as its 64 bits: see tishkolan_bits_of and tishkolan_double_of.
  * A buffer is a pointer and a length, in elements; NULL with length 0 is fine.
  * A call that answers into a buffer fills its front and leaves the rest as it was;
- * a call that refuses leaves all of it as it was.
+ * a call that refuses leaves all of it as it was. Buffers that are const are only read.
+ *
+ * What is assumed of you: a buffer is as long as you say, the buffers of one call do not overlap
+ * (those that are const may), and nobody changes a buffer while the call runs. Threads may call at
+ * the same time, each with its own buffers.
+ *
+ * Refusals are named in the order in which they are tested: the first that fits is given.
  */
 #ifndef TISHKOLAN_H
 #define TISHKOLAN_H
@@ -32,7 +40,7 @@ enum {
     TISHKOLAN_SEARCH_LIMIT_EXCEEDED = 7, /* carries expansions, limit */
     TISHKOLAN_NO_PATH_FOUND = 8,         /* carries start, goal */
     TISHKOLAN_COORD_OVERFLOW = 9,
-    TISHKOLAN_NO_ROOM = 10,              /* carries the room: 1 known, 2 waiting, 3 output, 4 layer */
+    TISHKOLAN_NO_ROOM = 10,              /* carries the room, below */
     TISHKOLAN_BAD_WORKSPACE = 11,
     TISHKOLAN_BAD_FILE = 12,             /* carries the byte place */
     TISHKOLAN_BAD_LIST = 13,             /* a list whose length is no multiple of 16, or one cell of another length than 16 */
@@ -41,6 +49,43 @@ enum {
 };
 
 enum { TISHKOLAN_CELL_BYTES = 16, TISHKOLAN_NEIGHBORS = 14, TISHKOLAN_CHILDREN = 8 };
+
+static inline const char *tishkolan_refusal_name(uint32_t number)
+{
+    switch (number) {
+    case TISHKOLAN_ANSWERED: return "answered";
+    case TISHKOLAN_INVALID_PARITY: return "the coordinates are neither all even nor all odd";
+    case TISHKOLAN_NO_PARENT: return "there is no parent";
+    case TISHKOLAN_NO_CHILDREN: return "there are no children";
+    case TISHKOLAN_OUT_OF_RANGE: return "out of range";
+    case TISHKOLAN_NO_VALUES: return "no values";
+    case TISHKOLAN_HAS_NAN: return "a value is not a number";
+    case TISHKOLAN_SEARCH_LIMIT_EXCEEDED: return "the search went beyond its limit";
+    case TISHKOLAN_NO_PATH_FOUND: return "there is no path";
+    case TISHKOLAN_COORD_OVERFLOW: return "a coordinate or a difference leaves 32 bits";
+    case TISHKOLAN_NO_ROOM: return "no room";
+    case TISHKOLAN_BAD_WORKSPACE: return "a workspace is too small, or its room is none";
+    case TISHKOLAN_BAD_FILE: return "the file is no survey file";
+    case TISHKOLAN_BAD_LIST: return "the bytes are no list of cells";
+    case TISHKOLAN_BAD_LAYER: return "the table is no layer";
+    case TISHKOLAN_BAD_RULE: return "there is no such rule";
+    default: return "no refusal has this number";
+    }
+}
+
+/* The rooms of NO_ROOM. */
+enum { TISHKOLAN_ROOM_KNOWN = 1, TISHKOLAN_ROOM_WAITING = 2, TISHKOLAN_ROOM_OUTPUT = 3, TISHKOLAN_ROOM_LAYER = 4 };
+
+static inline const char *tishkolan_room_name(uint32_t room)
+{
+    switch (room) {
+    case TISHKOLAN_ROOM_KNOWN: return "for known cells";
+    case TISHKOLAN_ROOM_WAITING: return "for waiting entries";
+    case TISHKOLAN_ROOM_OUTPUT: return "in the output";
+    case TISHKOLAN_ROOM_LAYER: return "in the layer";
+    default: return "no room has this number";
+    }
+}
 
 /* What a call says beside its answer. A field that the refusal does not carry is 0. */
 typedef struct {
@@ -96,6 +141,8 @@ static inline double tishkolan_double_of(uint64_t bits)
  * Anything else (-0.0, fractions, infinities, NaN) is OUT_OF_RANGE. */
 tishkolan_bits_answer tishkolan_square_root(uint64_t bits);
 
+/*     tishkolan_double_of(tishkolan_square_root(tishkolan_bits_of(2.0)).bits)  is 1.4142135623730951 */
+
 /* ---- lattice: points by their coordinates.
  * A point of the lattice has coordinates that are all even or all odd; a call on
  * another point is INVALID_PARITY, with that point, before anything else. */
@@ -142,6 +189,10 @@ tishkolan_bits_answer tishkolan_lattice_distance(int32_t ax, int32_t ay, int32_t
  * passes 2147483647. */
 tishkolan_number_answer tishkolan_lattice_manhattan_distance(int32_t ax, int32_t ay, int32_t az,
                                                              int32_t bx, int32_t by, int32_t bz);
+
+/*     tishkolan_coord_answer at = tishkolan_physical_to_lattice(
+ *         tishkolan_bits_of(0.9), tishkolan_bits_of(1.2), tishkolan_bits_of(0.8), 0);
+ *     if (at.refusal.number == TISHKOLAN_ANSWERED) ...                        at is (1, 1, 1) */
 
 /* ---- cells: 16 bytes.
  * A call that takes a cell of another length is BAD_LIST before anything else; one that
@@ -206,6 +257,10 @@ tishkolan_bits_answer tishkolan_cell_distance(const uint8_t *first, size_t first
                                               const uint8_t *second, size_t second_length);
 tishkolan_number_answer tishkolan_cell_manhattan_distance(const uint8_t *first, size_t first_length,
                                                           const uint8_t *second, size_t second_length);
+
+/*     uint8_t cell[16], near[14 * 16];
+ *     tishkolan_cell_from_coords(0, 3, 1, 1, 1, cell, sizeof cell);           frame 0, resolution 3
+ *     tishkolan_cell_neighbors(cell, sizeof cell, near, sizeof near); */
 
 /* ---- layers: a table of records that you lend, and how many of them are in use.
  * A flag record is a cell and 32 bits, a value record a cell and the 64 bits of a double,
@@ -288,6 +343,10 @@ void tishkolan_values_clear(uint8_t *table, size_t table_length);
 tishkolan_count_answer tishkolan_values_list(const uint8_t *table, size_t table_length, size_t count,
                                              uint8_t *out, size_t out_length);
 
+/*     uint8_t table[TISHKOLAN_MOST_CELLS * TISHKOLAN_FLAG_RECORD];
+ *     size_t count = 0;
+ *     count = tishkolan_flags_set(table, sizeof table, count, cell, sizeof cell, TISHKOLAN_BLOCKED).count; */
+
 /* ---- aggregates of a value layer */
 
 enum {
@@ -311,6 +370,10 @@ tishkolan_bits_answer tishkolan_values_aggregate(const uint8_t *table, size_t ta
 tishkolan_count_answer tishkolan_values_rollup(const uint8_t *fine, size_t fine_length, size_t fine_count,
                                                uint32_t how,
                                                uint8_t *coarse, size_t coarse_length, size_t coarse_count);
+
+/*     tishkolan_bits_answer least = tishkolan_values_aggregate(
+ *         values, sizeof values, count, cells, 8 * 16, TISHKOLAN_MIN);
+ *     if (least.refusal.number == TISHKOLAN_ANSWERED && tishkolan_double_of(least.bits) < 8.0) ... */
 
 /* ---- survey files */
 
@@ -338,6 +401,11 @@ tishkolan_length_answer tishkolan_survey_write(const uint8_t *flags, size_t flag
                                                const uint8_t *values, size_t values_length, size_t values_count,
                                                uint8_t *out, size_t out_length);
 
+/*     tishkolan_load_answer load = tishkolan_survey_load(file, length, flags, sizeof flags, flags_count,
+ *                                                        values, sizeof values, values_count);
+ *     flags_count = load.flags, values_count = load.values;                   also where it refused
+ *     if (load.refusal.number == TISHKOLAN_BAD_FILE) printf("byte %llu", (unsigned long long)load.place); */
+
 /* ---- lists of cells, 16 bytes each, at the front of a buffer. The count is how many they are, and 0
  * where the call refuses. */
 
@@ -348,6 +416,9 @@ tishkolan_length_answer tishkolan_survey_write(const uint8_t *flags, size_t flag
 tishkolan_count_answer tishkolan_trace_line(const uint8_t *start, size_t start_length,
                                             const uint8_t *end, size_t end_length,
                                             uint8_t *output, size_t output_length);
+
+/*     uint8_t line[64 * 16];
+ *     uint64_t cells = tishkolan_trace_line(from, 16, to, 16, line, sizeof line).count; */
 
 /* ---- rings: the cells around a cell, breadth first, from neighbour to neighbour.
  * The walk takes place in a workspace that you lend, which may hold anything. You name the room for
@@ -375,6 +446,9 @@ tishkolan_count_answer tishkolan_k_shell(const uint8_t *center, size_t center_le
                                          uint8_t *workspace, size_t workspace_length,
                                          uint8_t *out, size_t out_length);
 
+/*     static uint8_t workspace[TISHKOLAN_RING_BYTES(15)], ring[15 * 16];
+ *     tishkolan_k_ring(cell, 16, 1, 15, 15, workspace, sizeof workspace, ring, sizeof ring); */
+
 /* ---- the route checker.
  * A route is a list of cells, 16 bytes each; its cost is the sum of its steps as doubles, from 0.0,
  * in route order, and is claimed by its 64 bits. The verdict depends on what is handed to this very
@@ -393,6 +467,23 @@ enum {
     TISHKOLAN_WRONG_GOAL = 24,
     TISHKOLAN_WRONG_COST = 25
 };
+
+static inline const char *tishkolan_verdict_name(uint32_t verdict)
+{
+    switch (verdict) {
+    case TISHKOLAN_ACCEPTED: return "accepted";
+    case TISHKOLAN_EMPTY_ROUTE: return "the route is empty";
+    case TISHKOLAN_WRONG_START: return "the route does not begin at the start";
+    case TISHKOLAN_NOT_A_NEIGHBOR: return "a step does not go to a neighbour";
+    case TISHKOLAN_BLOCKED_CELL: return "a step enters a blocked cell";
+    case TISHKOLAN_WRONG_GOAL: return "the route does not end at the goal";
+    case TISHKOLAN_WRONG_COST: return "the route costs something else";
+    case TISHKOLAN_BAD_LIST:
+    case TISHKOLAN_BAD_LAYER:
+    case TISHKOLAN_BAD_RULE: return tishkolan_refusal_name(verdict);
+    default: return "no verdict has this number";
+    }
+}
 
 /* The verdict on a route from start to goal, under a rule and a flag layer. */
 uint32_t tishkolan_route_verdict(const uint8_t *route, size_t route_length,
@@ -414,6 +505,10 @@ uint32_t tishkolan_route_choice(const uint8_t *sent, size_t sent_length,
                                 const uint8_t *homing_goal, size_t homing_goal_length, uint64_t homing_cost,
                                 const uint8_t *flags, size_t flags_length, size_t flags_count,
                                 uint32_t rule);
+
+/*     uint32_t verdict = tishkolan_route_verdict(route, length, here, 16, goal, 16, cost,
+ *                                                flags, sizeof flags, flags_count, TISHKOLAN_AVOIDING);
+ *     if (verdict != TISHKOLAN_ACCEPTED) puts(tishkolan_verdict_name(verdict));     and hover */
 
 /* ---- the search.
  * A* from start to goal, in the Rust's order, by the Euclidean distance to the goal: under the rule
@@ -464,6 +559,13 @@ tishkolan_search_answer tishkolan_astar(const uint8_t *start, size_t start_lengt
                                         uint8_t *known_workspace, size_t known_workspace_length,
                                         uint8_t *waiting_workspace, size_t waiting_workspace_length,
                                         uint8_t *out, size_t out_length);
+
+/*     enum { ROOM = 4096 };
+ *     static uint8_t known[TISHKOLAN_SEARCH_KNOWN_BYTES(ROOM)], waiting[TISHKOLAN_SEARCH_WAITING_BYTES(ROOM)];
+ *     static uint8_t route[256 * 16];
+ *     tishkolan_search_answer found = tishkolan_astar(from, 16, to, 16, flags, sizeof flags, flags_count,
+ *         TISHKOLAN_AVOIDING, ROOM, ROOM, known, sizeof known, waiting, sizeof waiting, route, sizeof route);
+ *     if (found.refusal.number == TISHKOLAN_ANSWERED) ...          found.cells cells, found.cost its bits */
 
 #ifdef __cplusplus
 }

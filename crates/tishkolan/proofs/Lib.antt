@@ -11,3 +11,5 @@ pub mod KnownPoints
 pub mod OneAnswerRoutes
 pub mod RingSaid
 pub mod OneAnswerRings
+pub mod SearchSaid
+pub mod OneAnswerSearches

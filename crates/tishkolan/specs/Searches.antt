@@ -15,18 +15,18 @@ use Rattle.tishkolan.specs.Told.{answered, toldOf}
 
 abbrev pub routeTold : Route → SearchTold
 routeTold r =
-    record { refusal = answered; cells = r .cells; cost = r .cost; expansions = r .expansions; limit = 0; start-high = 0; start-low = 0; goal-high = 0; goal-low = 0 }
+    record { refusal = answered; cells = r .cells; cost = r .cost; expansions = r .expansions; limit = 0; «start_high» = 0; «start_low» = 0; «goal_high» = 0; «goal_low» = 0 }
 
 abbrev pub spentTold : Refusal → Spent → SearchTold
 spentTold r s =
-    record { refusal = toldOf r; cells = 0; cost = 0; expansions = s .expansions; limit = s .limit; start-high = 0; start-low = 0; goal-high = 0; goal-low = 0 }
+    record { refusal = toldOf r; cells = 0; cost = 0; expansions = s .expansions; limit = s .limit; «start_high» = 0; «start_low» = 0; «goal_high» = 0; «goal_low» = 0 }
 
 abbrev pub endsTold : Refusal → Ends → SearchTold
 endsTold r e =
-    record { refusal = toldOf r; cells = 0; cost = 0; expansions = 0; limit = 0; start-high = e .start .high; start-low = e .start .low; goal-high = e .goal .high; goal-low = e .goal .low }
+    record { refusal = toldOf r; cells = 0; cost = 0; expansions = 0; limit = 0; «start_high» = e .start .high; «start_low» = e .start .low; «goal_high» = e .goal .high; «goal_low» = e .goal .low }
 
 abbrev pub bareTold : Refusal → SearchTold
-bareTold r = record { refusal = toldOf r; cells = 0; cost = 0; expansions = 0; limit = 0; start-high = 0; start-low = 0; goal-high = 0; goal-low = 0 }
+bareTold r = record { refusal = toldOf r; cells = 0; cost = 0; expansions = 0; limit = 0; «start_high» = 0; «start_low» = 0; «goal_high» = 0; «goal_low» = 0 }
 
 abbrev pub noRoute : Refusal → SearchTold
 noRoute (InvalidParity c) = bareTold (InvalidParity c)

@@ -113,23 +113,21 @@ pub extern "C" fn tishkolan_astar_with_limit(
     waiting_workspace: &mut [u8],
     out: &mut [u8],
 ) -> SearchTold
-    ensures { λ t. ⌜ searchTold t (now (known_workspace .exit)) (now (waiting_workspace .exit)) (now (out .exit)) ≡ ofSearched (searchIn (now (start .entry)) (now (goal .entry)) known waiting limit rule (now (flags .entry)) «flags_count» (now (known_workspace .entry)) (now (waiting_workspace .entry)) (now (out .entry))) ⌝ }
+    ensures { λ t. ⌜ searchTold t (now («known_workspace» .exit)) (now («waiting_workspace» .exit)) (now (out .exit)) ≡ ofSearched (searchIn (now (start .entry)) (now (goal .entry)) known waiting limit rule (now (flags .entry)) «flags_count» (now («known_workspace» .entry)) (now («waiting_workspace» .entry)) (now (out .entry))) ⌝ }
 {
-    of_search(
-        astar::whole::astar_with_limit(
-            start,
-            goal,
-            known,
-            waiting,
-            limit,
-            rule,
-            flags,
-            flags_count,
-            known_workspace,
-            waiting_workspace,
-            out,
-        ),
-    )
+    of_search(astar::whole::astar_with_limit(
+        start,
+        goal,
+        known,
+        waiting,
+        limit,
+        rule,
+        flags,
+        flags_count,
+        known_workspace,
+        waiting_workspace,
+        out,
+    ))
 }
 
 // The same with a limit of 100,000.
@@ -146,20 +144,18 @@ pub extern "C" fn tishkolan_astar(
     waiting_workspace: &mut [u8],
     out: &mut [u8],
 ) -> SearchTold
-    ensures { λ t. ⌜ searchTold t (now (known_workspace .exit)) (now (waiting_workspace .exit)) (now (out .exit)) ≡ ofSearched (searchIn (now (start .entry)) (now (goal .entry)) known waiting 100000 rule (now (flags .entry)) «flags_count» (now (known_workspace .entry)) (now (waiting_workspace .entry)) (now (out .entry))) ⌝ }
+    ensures { λ t. ⌜ searchTold t (now («known_workspace» .exit)) (now («waiting_workspace» .exit)) (now (out .exit)) ≡ ofSearched (searchIn (now (start .entry)) (now (goal .entry)) known waiting 100000 rule (now (flags .entry)) «flags_count» (now («known_workspace» .entry)) (now («waiting_workspace» .entry)) (now (out .entry))) ⌝ }
 {
-    of_search(
-        astar::whole::astar(
-            start,
-            goal,
-            known,
-            waiting,
-            rule,
-            flags,
-            flags_count,
-            known_workspace,
-            waiting_workspace,
-            out,
-        ),
-    )
+    of_search(astar::whole::astar(
+        start,
+        goal,
+        known,
+        waiting,
+        rule,
+        flags,
+        flags_count,
+        known_workspace,
+        waiting_workspace,
+        out,
+    ))
 }
