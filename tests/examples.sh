@@ -1,0 +1,27 @@
+#!/bin/sh
+# Holds examples/planner.c and examples/day.c to their texts, and the sample surveys to the program that makes them.
+# Called by tests/run at the top of the repository, with cc, run and library as there.
+set -eu
+mkdir -p target/tests/survey
+for source in examples/planner.c examples/day.c examples/survey/make_surveys.c; do
+    program=target/tests/$(basename "$source" .c)
+    $cc -std=c11 -O2 -Wall -Wextra -Werror -o "$program" "$source" "$library" -lm
+done
+
+status=0
+$run target/tests/make_surveys target/tests/survey > /dev/null || status=1
+for name in morning reload; do
+    if ! cmp "target/tests/survey/$name.survey" "examples/survey/$name.survey"; then
+        echo "examples/survey/$name.survey is not what examples/survey/make_surveys.c writes"
+        status=1
+    fi
+done
+$run target/tests/planner examples/survey/morning.survey > target/tests/planner.txt || status=1
+$run target/tests/day examples/survey/morning.survey examples/survey/reload.survey > target/tests/day.txt || status=1
+for name in planner day; do
+    if ! diff "examples/$name.txt" "target/tests/$name.txt"; then
+        echo "examples/$name.c does not print what examples/$name.txt has"
+        status=1
+    fi
+done
+exit $status
