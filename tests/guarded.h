@@ -3,8 +3,8 @@
  * A buffer is lent from a slot: pages between two that may not be touched. It stands at the front of
  * them, so that the byte before it is guarded, or at their end, so that the byte behind it is; on its
  * other side stands a strip of bytes that must stay. On the heap it is a block of its own, exactly as
- * long as said, for valgrind or a sanitizer. Bytes that a call may not depend on are marked as undefined
- * for valgrind, which then tells when it does. */
+ * long as said, for valgrind or a sanitizer. Valgrind is told that the strip may not be touched, and
+ * that bytes which a call may not depend on are undefined, so that it tells when a call does. */
 #ifndef GUARDED_H
 #define GUARDED_H
 
@@ -25,11 +25,13 @@
 #include <valgrind/memcheck.h>
 #define UNDEFINED(at, bytes) ((void)VALGRIND_MAKE_MEM_UNDEFINED(at, bytes))
 #define DEFINED(at, bytes) ((void)VALGRIND_MAKE_MEM_DEFINED(at, bytes))
+#define FORBIDDEN(at, bytes) ((void)VALGRIND_MAKE_MEM_NOACCESS(at, bytes))
 #endif
 #endif
 #ifndef UNDEFINED
 #define UNDEFINED(at, bytes) ((void)(at), (void)(bytes))
 #define DEFINED(at, bytes) ((void)(at), (void)(bytes))
+#define FORBIDDEN(at, bytes) ((void)(at), (void)(bytes))
 #endif
 
 enum { SLOTS = 8, PAGE = 4096, SLOT_BYTES = 192 * PAGE, STRIP = 48, STRIP_BYTE = 0x5C };
@@ -74,6 +76,12 @@ static inline void lay_guards(void)
     }
 }
 
+/* The strip beside the buffer, which is not on the heap. */
+static inline uint8_t *strip_of(int place)
+{
+    return slot[place].where == AT_FRONT ? slot[place].at + slot[place].bytes : slot[place].at - STRIP;
+}
+
 /* Lends so many of these bytes. */
 static inline uint8_t *lend(int place, placing where, const void *from, size_t bytes)
 {
@@ -85,12 +93,10 @@ static inline uint8_t *lend(int place, placing where, const void *from, size_t b
         slot[place].at = slot[place].block = malloc(bytes);
         if (slot[place].block == NULL && bytes > 0)
             exit(2);
-    } else if (where == AT_FRONT) {
-        slot[place].at = slot[place].pages;
-        memset(slot[place].at + bytes, STRIP_BYTE, STRIP);
     } else {
-        slot[place].at = slot[place].pages + SLOT_BYTES - bytes;
-        memset(slot[place].at - STRIP, STRIP_BYTE, STRIP);
+        slot[place].at = where == AT_FRONT ? slot[place].pages : slot[place].pages + SLOT_BYTES - bytes;
+        memset(strip_of(place), STRIP_BYTE, STRIP);
+        FORBIDDEN(strip_of(place), STRIP);
     }
     if (bytes > 0) {
         memcpy(slot[place].before, from, bytes);
@@ -109,14 +115,13 @@ static inline void hide(int place, size_t from)
 /* After the call: all bytes can be looked at again. Whether the strip beside the buffer stayed. */
 static inline bool beside_stays(int place)
 {
-    const uint8_t *strip = slot[place].where == AT_FRONT ? slot[place].at + slot[place].bytes : slot[place].at - STRIP;
-
     if (slot[place].bytes > 0)
         DEFINED(slot[place].at, slot[place].bytes);
     if (slot[place].where == ON_HEAP)
         return true;
+    DEFINED(strip_of(place), STRIP);
     for (int byte = 0; byte < STRIP; byte++)
-        if (strip[byte] != STRIP_BYTE)
+        if (strip_of(place)[byte] != STRIP_BYTE)
             return false;
     return true;
 }
