@@ -19,20 +19,7 @@
 #include <unistd.h>
 
 #include "../include/tishkolan.h"
-
-#if defined(__has_include)
-#if __has_include(<valgrind/memcheck.h>)
-#include <valgrind/memcheck.h>
-#define UNDEFINED(at, bytes) ((void)VALGRIND_MAKE_MEM_UNDEFINED(at, bytes))
-#define DEFINED(at, bytes) ((void)VALGRIND_MAKE_MEM_DEFINED(at, bytes))
-#define FORBIDDEN(at, bytes) ((void)VALGRIND_MAKE_MEM_NOACCESS(at, bytes))
-#endif
-#endif
-#ifndef UNDEFINED
-#define UNDEFINED(at, bytes) ((void)(at), (void)(bytes))
-#define DEFINED(at, bytes) ((void)(at), (void)(bytes))
-#define FORBIDDEN(at, bytes) ((void)(at), (void)(bytes))
-#endif
+#include "memcheck.h"
 
 enum { SLOTS = 8, PAGE = 4096, SLOT_BYTES = 192 * PAGE, STRIP = 48, STRIP_BYTE = 0x5C };
 
