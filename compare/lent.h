@@ -18,6 +18,7 @@
 #include <stdlib.h>
 
 #include "../include/tishkolan.h"
+#include "../tests/memcheck.h"
 
 enum { SIDE = 16, HEAD = 8 + 6 * 8 + BUFFERS * 8, SAYS = 56 };
 
@@ -55,11 +56,17 @@ static void answer_one(const uint8_t **from, uint8_t **to)
         memcpy(lent[place] + SIDE, *from, length[place]);
         *from += length[place];
         buffer[place] = null && length[place] == 0 ? NULL : lent[place] + SIDE;
+        FORBIDDEN(lent[place], SIDE);
+        FORBIDDEN(lent[place] + whole - SIDE, SIDE);
     }
 
     memset(&refusal, 0, sizeof refusal);
     memset(value, 0, sizeof value);
     make_call(call, buffer);
+    for (int place = 0; place < BUFFERS; place++) {
+        DEFINED(lent[place], SIDE);
+        DEFINED(lent[place] + SIDE + length[place], SIDE);
+    }
 
     memset(*to, 0, SAYS);
     memcpy(*to, &refusal, 20);
