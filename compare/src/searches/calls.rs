@@ -234,11 +234,10 @@ fn oracle(
             expansions: expansions as u64,
             limit: limit as u64,
         },
-        Error::NoPathFound { start: from, goal: to }
-            if from == start.to_string() && to == goal.to_string() =>
-        {
-            Stop::NoPath { start, goal }
-        }
+        Error::NoPathFound {
+            start: from,
+            goal: to,
+        } if from == start.to_string() && to == goal.to_string() => Stop::NoPath { start, goal },
         other => panic!("a search refused otherwise: {other:?}"),
     })
 }
@@ -257,9 +256,8 @@ fn agrees<C: CostFn>(
             astar_with_limit(start, goal, cost, limit as usize)
         })
     };
-    let same = |path: &Path, route: &Route| {
-        path.cells == route.cells && path.cost.to_bits() == route.cost
-    };
+    let same =
+        |path: &Path, route: &Route| path.cells == route.cells && path.cost.to_bits() == route.cost;
     let said = match call {
         Call::Limited => limited(plan.limit),
         Call::Unlimited => oracle(plan, |start, goal| astar(start, goal, cost)),

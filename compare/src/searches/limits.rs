@@ -236,7 +236,7 @@ fn blocking(cells: &[CellID], rule: u32) -> Under {
 
 // ---- open maps
 
-/// The known points of the specification, in every frame of mind: both rules, all limits.
+/// The known points of the specification and others as near: both rules, all limits.
 fn points(random: &mut Random, sink: Sink) {
     let start = at(0, 0, [0, 0, 0], 0);
     for point in [[2, 2, 0], [3, 1, 1], [1, 1, 1], [2, 0, 0], [4, 4, 4]] {
@@ -665,7 +665,7 @@ fn small_rooms(random: &mut Random, sink: Sink) {
 fn named(random: &mut Random, sink: Sink) {
     let (start, goal) = (at(0, 0, [0, 0, 0], 0), at(0, 0, [2, 2, 0], 0));
     let whole = Search::within(start, goal, &nothing(1), rooms(40, 40, 3));
-    // 44 times the one before the last but one is small modulo 2^64, and so is 32 times the last.
+    // 44 times u64::MAX / 44 + 1 is small modulo 2^64, and 32 times 2^59 is 0.
     let odd = [
         0,
         1,
@@ -876,22 +876,20 @@ fn far(random: &mut Random, sink: Sink) {
 // ---- large searches
 
 /// Searches that fill the largest rooms; under the usual limit a goal that is never reached is
-/// NoRoom. Walls of 1,024 cells, and a route of 60,000.
+/// NoRoom. Walls of 1,024 cells, and long routes.
 fn large(random: &mut Random, sink: Sink) {
     let largest = MOST_ROOM as usize;
     let all = rooms(largest, largest, 300);
     let start = at(0, 0, [0, 0, 0], 0);
     let never = at(0, 0, [4, 4, 4], 0x0010);
     let went = reading::went(&endless(start, never, &nothing(0)), all);
-    sink(Search::within(start, never, &nothing(0), all).ask(random));
     for waiting in [went.taken.waiting, went.taken.waiting - 1] {
         let within = rooms(largest, waiting, 300);
         sink(Search::within(start, never, &nothing(1), within).ask(random));
     }
-    for limit in [went.expansions, went.expansions - 1] {
-        let search = Search::within(start, never, &nothing(0), all);
-        sink(search.limited(limit).ask(random));
-    }
+    let search = Search::within(start, never, &nothing(0), all);
+    sink(search.ask(random));
+    sink(search.limited(went.expansions - 1).ask(random));
 
     let mut wall = walls(start, 7);
     for cell in hollow(start, 10, 10) {
@@ -900,14 +898,18 @@ fn large(random: &mut Random, sink: Sink) {
         }
     }
     let goal = at(0, 0, [24, 2, 0], 0);
-    for gates in [0, 1, 2, 4, 8] {
+    for gates in [0, 2, 8] {
         let under = blocking(&gated(wall.clone(), gates, random), 1);
         exact(start, goal, &under, all, random, sink);
-        exact(goal, start, &under, all, random, sink);
     }
 
     let long = rooms(largest, largest, largest);
-    for to in [[4_000, 0, 0], [4_001, 4_001, -4_001], [600, 598, 602]] {
-        exact(start, at(0, 0, to, 0), &nothing(0), long, random, sink);
+    for to in [[7_000, 0, 0], [4_001, 4_001, -4_001]] {
+        let goal = at(0, 0, to, 0);
+        let taken = reading::went(&endless(start, goal, &nothing(0)), long).taken;
+        let mut search = Search::within(start, goal, &nothing(0), taken);
+        sink(search.ask(random));
+        search.output -= 1;
+        sink(search.ask(random));
     }
 }

@@ -115,11 +115,14 @@ impl Random {
             let center = self.one_of(&[start, start, goal]);
             let point = [center.x(), center.y(), center.z()];
             // The box is on the lattice too.
-            if point.iter().all(|number| number.unsigned_abs() < 2_000_000_000) {
+            if point
+                .iter()
+                .all(|number| number.unsigned_abs() < 2_000_000_000)
+            {
                 let r = self.one_of(&[0, 0, 1, 1, 2, 2, 3, 3, 4, 5, 6, 7]);
                 let gates = match self.below(4) {
-                    0 => 0,
-                    1 => 1 + self.below(3),
+                    0 | 1 => 0,
+                    2 => 1 + self.below(3),
                     _ => self.below(40),
                 };
                 cells.extend(gated(walls(center, r), gates as usize, self));
@@ -234,8 +237,8 @@ impl Random {
         // Where the goal is not reached, the search fills these.
         let room = match self.below(1000) {
             0 => 10_000,
-            1..=20 => 2_000,
-            21..=300 => 300,
+            1..=60 => 2_000,
+            61..=400 => 300,
             _ => 100,
         };
         let Went {
