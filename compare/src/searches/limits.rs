@@ -130,6 +130,7 @@ pub fn limits(sink: Sink) {
     contents(&mut random, sink);
     edges(&mut random, sink);
     far(&mut random, sink);
+    distant(&mut random, sink);
     large(&mut random, sink);
 }
 
@@ -870,6 +871,65 @@ fn far(random: &mut Random, sink: Sink) {
                 }
             }
         }
+    }
+}
+
+/// A search that its limit ends, with the rooms that it takes until then and one less of each: the
+/// order in which cells are expanded shows in how much room they take.
+pub fn cut_short(
+    start: CellID,
+    goal: CellID,
+    under: &Under,
+    limit: u64,
+    random: &mut Random,
+    sink: Sink,
+) {
+    let plan = Plan {
+        limit,
+        ..endless(start, goal, under)
+    };
+    let taken = reading::went(&plan, rooms(2000, 2000, 300)).taken;
+    for (known, waiting) in [(0, 0), (1, 0), (0, 1)] {
+        let within = rooms(
+            taken.known.saturating_sub(known).max(1),
+            taken.waiting.saturating_sub(waiting).max(1),
+            taken.output,
+        );
+        let search = Search::within(start, goal, under, within);
+        sink(search.limited(limit).ask(random));
+    }
+}
+
+/// A goal so far away that the squares of differences and their sums are rounded. Where two of the
+/// differences are equal, that decides between cells that are equally far.
+pub fn far_goal(start: CellID, random: &mut Random) -> CellID {
+    let far = [(); 2].map(|()| random.between(100_000_000, 2_000_000_000) & !1);
+    let by = random.one_of(&[[0, 0, 0], [0, 0, 1], [0, 1, 0], [1, 0, 0]]);
+    let from = [start.x(), start.y(), start.z()].map(i64::from);
+    // Towards the middle, so that it is on the lattice.
+    let to = [0, 1, 2].map(|axis| match from[axis] < 0 {
+        true => from[axis] + far[by[axis]],
+        false => from[axis] - far[by[axis]],
+    });
+    at(start.frame(), start.resolution(), to, 0)
+}
+
+/// A layer that blocks about a third of the cells near a start, so that no two ways are alike.
+pub fn rubble(start: CellID, random: &mut Random) -> Under {
+    let mut cells = hollow(start, 1, 5);
+    cells.retain(|_| random.below(3) == 0);
+    blocking(&cells, 1)
+}
+
+fn distant(random: &mut Random, sink: Sink) {
+    for _ in 0..1000 {
+        let odd = random.below(2) as i64;
+        let point = [(); 3].map(|()| random.between(-1_000_000, 1_000_000) & !1 | odd);
+        let start = at(4, 4, point, 0);
+        let goal = far_goal(start, random);
+        let limit = 2 + random.below(60);
+        let under = rubble(start, random);
+        cut_short(start, goal, &under, limit, random, sink);
     }
 }
 

@@ -3,7 +3,7 @@
 #![allow(deprecated)]
 
 use super::calls::{known_bytes, waiting_bytes, Request};
-use super::limits::{endless, gated, rooms, walls, Search};
+use super::limits::{cut_short, endless, far_goal, gated, rooms, rubble, walls, Search};
 use super::reading::{self, Went};
 use crate::paths::calls::MOST_ROOM;
 use crate::paths::reading::Rooms;
@@ -261,4 +261,9 @@ pub fn random(random: &mut Random, sink: Sink) {
     for _ in 0..30 {
         random.searches(sink);
     }
+    let start = random.away(at(0, 0, [0, 0, 0], 0), 1_000_000);
+    let goal = far_goal(start, random);
+    let under = rubble(start, random);
+    let limit = 1 + random.below(80);
+    cut_short(start, goal, &under, limit, random, sink);
 }
