@@ -345,7 +345,11 @@ fn boxes(random: &mut Random, sink: Sink) {
         let beside = at(3, 9, [-3 + r / 2 * 2 + 6, 1, 1], 0);
         for goal in [inside, beside] {
             for rule in RULES {
-                thorough(start, goal, &blocking(&wall, rule), most, random, sink);
+                let under = blocking(&wall, rule);
+                match r {
+                    0..=2 => thorough(start, goal, &under, most, random, sink),
+                    _ => exact(start, goal, &under, most, random, sink),
+                }
             }
             for gates in [1, 2, 5, 20, 60] {
                 let under = blocking(&gated(wall.clone(), gates, random), 1);
@@ -958,7 +962,7 @@ fn large(random: &mut Random, sink: Sink) {
         }
     }
     let goal = at(0, 0, [24, 2, 0], 0);
-    for gates in [0, 2, 8] {
+    for gates in [0, 4] {
         let under = blocking(&gated(wall.clone(), gates, random), 1);
         exact(start, goal, &under, all, random, sink);
     }
