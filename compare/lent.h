@@ -1,4 +1,4 @@
-/* What layers.c and routes.c share: they make the calls that a comparison asks for, and hand back
+/* What layers.c, routes.c, paths.c and searches.c share: they make the calls that a comparison asks for, and hand back
  * all that these say and everything that they were lent.
  *
  * As answer.c, such a program is linked with the library and talks through pipes. Numbers are
@@ -9,7 +9,7 @@
  *
  * Its answer is a length in bytes (4) and for each request:
  *
- *   the refusal (20), 0 (4), four values (8 each),
+ *   the refusal (20), 0 (4), eight values (8 each),
  *   and for each buffer, const or not, 16 bytes, the buffer, 16 bytes
  *
  * The program names BUFFERS and LARGEST_BUFFER before it includes this, and has make_call.
@@ -20,9 +20,9 @@
 #include "../include/tishkolan.h"
 #include "../tests/memcheck.h"
 
-enum { SIDE = 16, HEAD = 8 + 6 * 8 + BUFFERS * 8, SAYS = 56 };
+enum { SIDE = 16, VALUES = 8, HEAD = 8 + 6 * 8 + BUFFERS * 8, SAYS = 24 + VALUES * 8 };
 
-static uint64_t number[6], value[4], length[BUFFERS];
+static uint64_t number[6], value[VALUES], length[BUFFERS];
 static tishkolan_refusal refusal;
 
 /* Makes the call on `number` and the buffers, and puts what it says into `refusal` and `value`. */

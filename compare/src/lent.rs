@@ -10,7 +10,10 @@ const SIDE: usize = 16;
 
 /// The numbers of a request, and the bytes that say something beside the buffers.
 const NUMBERS: usize = 6;
-const SAYS: usize = 56;
+const SAYS: usize = 24 + 8 * VALUES;
+
+/// The numbers of an answer: as many as the longest has.
+pub const VALUES: usize = 8;
 
 /// A call of the header.
 pub trait Called: Copy + 'static {
@@ -54,7 +57,7 @@ pub struct Request<Call> {
 pub struct Answer {
     pub refusal: Refusal,
     /// The answer's numbers in the order of the header.
-    pub values: [u64; 4],
+    pub values: [u64; VALUES],
     pub buffers: Vec<Vec<u8>>,
 }
 
@@ -69,6 +72,13 @@ impl<Call: Called> Request<Call> {
             null: false,
         }
     }
+}
+
+/// An answer's first numbers; the others are 0.
+pub fn values(first: &[u64]) -> [u64; VALUES] {
+    let mut values = [0; VALUES];
+    values[..first.len()].copy_from_slice(first);
+    values
 }
 
 fn side(place: usize) -> u8 {
@@ -133,7 +143,7 @@ impl<Call: Called> Asked for Request<Call> {
         let (head, mut rest) = said.split_at(SAYS);
         let refusal = Refusal::read(head);
         let long = |at: usize| u64::from_le_bytes(head[at..at + 8].try_into().unwrap());
-        let values = [0, 1, 2, 3].map(|place| long(24 + 8 * place));
+        let values = std::array::from_fn(|place| long(24 + 8 * place));
 
         let mut wrong = Vec::new();
         if refusal != wanted.refusal {

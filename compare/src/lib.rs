@@ -11,4 +11,5 @@ pub mod paths;
 mod pipe;
 pub mod random;
 pub mod routes;
+pub mod searches;
 pub mod side_by_side;

@@ -8,7 +8,7 @@ use super::calls::{Call, Of, Request};
 use super::survey;
 use super::table::{self, Kept};
 use crate::expected::{Refusal, BAD_FILE, BAD_LIST, HAS_NAN, NO_VALUES, OUT_OF_RANGE};
-use crate::lent::Answer;
+use crate::lent::{values, Answer, VALUES};
 use oracle::error::Error;
 use oracle::id::CellID;
 use oracle::layer::{Aggregation, CellFlags, Layer};
@@ -28,12 +28,10 @@ impl From<Refusal> for Refused {
     }
 }
 
-type Said = Result<[u64; 4], Refused>;
+type Said = Result<[u64; VALUES], Refused>;
 
 fn says(numbers: &[u64]) -> Said {
-    let mut values = [0; 4];
-    values[..numbers.len()].copy_from_slice(numbers);
-    Ok(values)
+    Ok(values(numbers))
 }
 
 /// The cells of a list; BadList where its length is no multiple of 16.
@@ -221,14 +219,14 @@ fn say(request: &Request, buffers: &mut [Vec<u8>]) -> Said {
 }
 
 /// What is said beside a refusal: the counts that were given, else 0.
-fn beside(request: &Request, place: u64) -> [u64; 4] {
+fn beside(request: &Request, place: u64) -> [u64; VALUES] {
     let numbers = &request.numbers;
     match request.call {
-        Call::Set(_) | Call::Count(_) | Call::List(_) => [numbers[0], 0, 0, 0],
-        Call::Get(_) | Call::Remove(_) => [0, 0, numbers[0], 0],
-        Call::Rollup => [numbers[2], 0, 0, 0],
-        Call::Load => [place, numbers[0], numbers[1], 0],
-        _ => [0; 4],
+        Call::Set(_) | Call::Count(_) | Call::List(_) => values(&[numbers[0]]),
+        Call::Get(_) | Call::Remove(_) => values(&[0, 0, numbers[0]]),
+        Call::Rollup => values(&[numbers[2]]),
+        Call::Load => values(&[place, numbers[0], numbers[1]]),
+        _ => values(&[]),
     }
 }
 

@@ -6,7 +6,7 @@
 use super::reading::{self, Rooms};
 use crate::expected::{run, Refusal, BAD_WORKSPACE, NO_ROOM};
 use crate::layers::expected::one_cell;
-use crate::lent::{self, Answer, Called};
+use crate::lent::{self, values, Answer, Called};
 use crate::side_by_side::Asked;
 use oracle::id::CellID;
 use oracle::path::{k_ring, k_shell, trace_line};
@@ -82,7 +82,7 @@ impl Called for Call {
         };
         Answer {
             refusal,
-            values: [count, 0, 0, 0],
+            values: values(&[count]),
             buffers,
         }
     }

@@ -30,7 +30,7 @@ impl Random {
     }
 
     /// The room, or a few more or less.
-    fn about(&mut self, room: usize) -> usize {
+    pub(crate) fn about(&mut self, room: usize) -> usize {
         match self.below(8) {
             0 => room.saturating_sub(1),
             1 => (room as i64 + self.between(-3, 3)).max(0) as usize,
@@ -40,7 +40,7 @@ impl Random {
         }
     }
 
-    fn odd_room(&mut self) -> u64 {
+    pub(crate) fn odd_room(&mut self) -> u64 {
         match self.below(4) {
             0 => self.one_of(&[0, MOST_ROOM, MOST_ROOM + 1, u64::MAX]),
             1 => self.next(),

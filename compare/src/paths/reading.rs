@@ -25,7 +25,7 @@ impl Rooms {
 }
 
 /// "Parity first, then CoordOverflow unless each coordinate is in -2147483646..=2147483645."
-fn neighbors(cell: CellID) -> Result<Vec<CellID>, Refusal> {
+pub fn neighbors(cell: CellID) -> Result<Vec<CellID>, Refusal> {
     let point = [cell.x(), cell.y(), cell.z()];
     parity(cell)?;
     if point
@@ -41,7 +41,7 @@ fn neighbors(cell: CellID) -> Result<Vec<CellID>, Refusal> {
         .collect())
 }
 
-fn parity(cell: CellID) -> Result<(), Refusal> {
+pub fn parity(cell: CellID) -> Result<(), Refusal> {
     let [x, y, z] = [cell.x(), cell.y(), cell.z()];
     if x & 1 == y & 1 && y & 1 == z & 1 {
         Ok(())

@@ -4,7 +4,7 @@
 
 use super::checker;
 use crate::expected::Refusal;
-use crate::lent::{self, Answer, Called};
+use crate::lent::{self, values, Answer, Called};
 use oracle::id::CellID;
 
 #[derive(Debug, Clone, Copy, PartialEq, Eq)]
@@ -60,7 +60,7 @@ impl Called for Call {
         };
         Answer {
             refusal: Refusal::default(),
-            values: [number.into(), 0, 0, 0],
+            values: values(&[number.into()]),
             buffers: request.buffers.clone(),
         }
     }

@@ -71,7 +71,7 @@ impl Random {
         route
     }
 
-    fn flags(&mut self) -> u32 {
+    pub(crate) fn flags(&mut self) -> u32 {
         match self.below(6) {
             0 => self.next() as u32,
             1 => 1 << self.below(32),
@@ -117,7 +117,7 @@ impl Random {
     }
 
     /// The layer and a rule, now and then damaged.
-    fn under(&mut self, mut records: Vec<(CellID, u32)>) -> Under {
+    pub(crate) fn under(&mut self, mut records: Vec<(CellID, u32)>) -> Under {
         if records.len() > 1 && self.chance(40) {
             let place = self.place(records.len() - 1);
             match self.below(2) {

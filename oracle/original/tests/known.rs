@@ -3,10 +3,11 @@
 
 #![allow(deprecated)]
 
+use original::error::Error;
 use original::id::CellID;
 use original::lattice::{Lattice, LatticeCoord};
 use original::layer::{Aggregation, Layer};
-use original::path::{astar_with_limit, k_ring, k_shell, trace_line, EuclideanCost};
+use original::path::{astar, astar_with_limit, k_ring, k_shell, trace_line, EuclideanCost};
 use std::panic::catch_unwind;
 
 fn coord(x: i32, y: i32, z: i32) -> LatticeCoord {
@@ -63,6 +64,8 @@ fn mixed_parity_is_a_panic() {
     assert!(catch_unwind(|| mixed.cell_between(plain(0, 0, 0))).is_err());
     assert!(catch_unwind(|| k_ring(mixed, 1)).is_err());
     assert!(catch_unwind(|| k_shell(mixed, 1)).is_err());
+    assert!(catch_unwind(|| astar(mixed, plain(0, 0, 0), &EuclideanCost)).is_err());
+    assert!(catch_unwind(|| astar(plain(0, 0, 0), mixed, &EuclideanCost)).is_err());
 }
 
 #[test]
@@ -102,6 +105,28 @@ fn ties_fall_as_the_heap_has_them() {
     let limited = |limit| astar_with_limit(plain(0, 0, 0), plain(2, 2, 0), &EuclideanCost, limit);
     assert!(limited(3).is_err());
     assert!(limited(4).is_ok());
+    let path = astar(plain(0, 0, 0), plain(3, 1, 1), &EuclideanCost).unwrap();
+    let route = [plain(0, 0, 0), plain(1, 1, 1), plain(3, 1, 1)];
+    assert_eq!(path.cells, route);
+}
+
+#[test]
+fn a_flagged_goal_is_searched_to_the_limit() {
+    let goal = CellID::new(0, 0, 4, 4, 4, 0, 1).unwrap();
+    let limit = Error::SearchLimitExceeded {
+        expansions: 100_001,
+        limit: 100_000,
+    };
+    let said = astar(plain(0, 0, 0), goal, &EuclideanCost);
+    assert_eq!(said.unwrap_err(), limit);
+}
+
+#[test]
+fn searches_wrap() {
+    // Over the edge by one step, and to a goal that is 2^31 away.
+    let (low, high) = (plain(-2147483648, 0, 0), plain(2147483646, 0, 0));
+    let path = astar(high, low, &EuclideanCost).unwrap();
+    assert_eq!((path.cells, path.cost), (vec![high, low], 2.0));
 }
 
 #[test]

@@ -6,8 +6,10 @@
 use oracle::error::Error;
 use oracle::id::CellID;
 use oracle::lattice::{Lattice, LatticeCoord};
-use oracle::layer::{Aggregation, Layer};
-use oracle::path::{astar_with_limit, k_ring, k_shell, trace_line, EuclideanCost};
+use oracle::layer::{Aggregation, CellFlags, Layer};
+use oracle::path::{
+    astar, astar_with_limit, k_ring, k_shell, trace_line, AvoidBlockedCost, EuclideanCost,
+};
 use std::panic::catch_unwind;
 
 fn plain(x: i32, y: i32, z: i32) -> CellID {
@@ -123,6 +125,10 @@ fn search() {
     }
     let path = astar_with_limit(start, plain(3, 1, 1), &EuclideanCost, 100_000).unwrap();
     assert_eq!(coordinates(&path.cells), [(0, 0, 0), (2, 0, 0), (3, 1, 1)]);
+    // Not looked at: equal ends.
+    let mixed = any(0, 1, 0);
+    let path = astar_with_limit(mixed, mixed, &EuclideanCost, 0).unwrap();
+    assert_eq!((path.cells, path.cost.to_bits()), (vec![mixed], 0));
 }
 
 #[test]
@@ -177,6 +183,8 @@ fn overflow_is_a_panic() {
         panics(|| k_ring(any(2147483646, 0, 0), 1)),
         panics(|| k_shell(any(2147483646, 0, 0), 1)),
         panics(|| trace_line(any(i32::MIN, 0, 0), any(0, 0, 0))),
+        panics(|| astar(any(2147483646, 0, 0), any(0, 0, 0), &EuclideanCost)),
+        panics(|| astar(any(0, 0, 0), any(i32::MIN, 0, 0), &EuclideanCost)),
     ] {
         assert!(call.ends_with("with overflow"), "{call}");
     }
@@ -189,12 +197,44 @@ fn mixed_parity_is_a_panic() {
         panics(|| k_ring(any(0, 1, 0), 1)),
         panics(|| k_shell(any(0, 1, 0), 1)),
         panics(|| any(0, 1, 0).cell_between(any(0, 0, 0))),
+        panics(|| astar(any(0, 1, 0), any(0, 0, 0), &EuclideanCost)),
+        panics(|| astar(any(0, 0, 0), any(0, 1, 0), &EuclideanCost)),
     ] {
         assert!(
             call.ends_with("InvalidParity { x: 0, y: 1, z: 0 }"),
             "{call}"
         );
     }
+}
+
+#[test]
+fn a_flagged_goal_is_searched_to_the_limit() {
+    let goal = CellID::new(0, 0, 4, 4, 4, 0, 1).unwrap();
+    assert_eq!(
+        astar(plain(0, 0, 0), goal, &EuclideanCost).unwrap_err(),
+        Error::SearchLimitExceeded {
+            expansions: 100_001,
+            limit: 100_000
+        }
+    );
+}
+
+#[test]
+fn no_path_carries_texts() {
+    // Its flags, 165, are in none of them.
+    let start = CellID::new(0, 0, 0, 0, 0, 0, 165).unwrap();
+    let mut flags = Layer::new("");
+    for neighbor in start.neighbors() {
+        flags.set(neighbor, CellFlags::new(1));
+    }
+    let shut = AvoidBlockedCost::new(flags, 0.0);
+    assert_eq!(
+        astar(start, plain(2, 2, 0), &shut).unwrap_err(),
+        Error::NoPathFound {
+            start: "CellID(frame=0, res=0, x=0, y=0, z=0)".to_string(),
+            goal: "CellID(frame=0, res=0, x=2, y=2, z=0)".to_string()
+        }
+    );
 }
 
 #[test]
