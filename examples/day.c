@@ -6,7 +6,7 @@
 #include <stdio.h>
 #include <stdlib.h>
 
-#include "../include/tishkolan.h"
+#include <tishkolan.h>
 
 enum {
     CELL = TISHKOLAN_CELL_BYTES,

@@ -5,7 +5,7 @@
  */
 #include <stdio.h>
 
-#include "../include/tishkolan.h"
+#include <tishkolan.h>
 
 enum {
     CELL = TISHKOLAN_CELL_BYTES,

@@ -1,11 +1,11 @@
 #!/bin/sh
-# Holds examples/planner.c and examples/day.c to their texts, and the sample surveys to the program that makes them.
+# Holds the examples to their texts, README's example to the file, and the sample surveys to the program that makes them.
 # Called by tests/run at the top of the repository, with cc, run and library as there.
 set -eu
 mkdir -p target/tests/survey
-for source in examples/planner.c examples/day.c examples/survey/make_surveys.c; do
+for source in examples/*.c examples/survey/make_surveys.c; do
     program=target/tests/$(basename "$source" .c)
-    $cc -std=c11 -O2 -Wall -Wextra -Werror -o "$program" "$source" "$library" -lm
+    $cc -std=c11 -O2 -Wall -Wextra -Werror -Iinclude -o "$program" "$source" "$library"
 done
 
 status=0
@@ -16,9 +16,15 @@ for name in morning reload; do
         status=1
     fi
 done
+sed -n '/^    \/\* A flight loop/,/^    }$/p' README.md | sed 's/^    //' > target/tests/readme.c
+if ! diff examples/flight_loop.c target/tests/readme.c; then
+    echo "README.md does not have examples/flight_loop.c as it is"
+    status=1
+fi
+$run target/tests/flight_loop > target/tests/flight_loop.txt || status=1
 $run target/tests/planner examples/survey/morning.survey > target/tests/planner.txt || status=1
 $run target/tests/day examples/survey/morning.survey examples/survey/reload.survey > target/tests/day.txt || status=1
-for name in planner day; do
+for name in flight_loop planner day; do
     if ! diff "examples/$name.txt" "target/tests/$name.txt"; then
         echo "examples/$name.c does not print what examples/$name.txt has"
         status=1

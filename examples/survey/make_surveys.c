@@ -11,7 +11,7 @@
 #include <stdio.h>
 #include <stdlib.h>
 
-#include "../../include/tishkolan.h"
+#include <tishkolan.h>
 
 enum {
     RESOLUTION = 2,
