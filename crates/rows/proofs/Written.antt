@@ -9,9 +9,9 @@ use lib.Dec.{ltb}
 use lib.ListN.{length, drop}
 use Rattle.refusal.specs.Table.{rawOf}
 use Rattle.words.specs.Word.{little, word, stored, Bytes, Apart}
-use Rattle.words.specs.Laws.{length-stored, word-stored, word-stored-apart}
+use Rattle.words.specs.Laws.{length-stored, word-stored, word-stored-apart, drop-after-stored}
 use Rattle.known.specs.Known.{Roomy, Known, recordPlace, cellIn}
-use Rattle.known.specs.Laws.{cell-beside-field, known-beside-field, drop-after-stored}
+use Rattle.known.specs.Laws.{cell-beside-field, known-beside-field}
 use Rattle.search.specs.Search.{Row, row, put, close}
 use Rattle.rows.specs.Rows.{markIn, gIn, beforeIn, rowIn, rowsIn, Rows, Changed}
 use Rattle.rows.specs.RowsLaws.{row-is, row-same, put-row, close-row}
