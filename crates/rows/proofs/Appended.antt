@@ -15,9 +15,8 @@ use Rattle.cell.specs.Laws.{Words}
 use Rattle.known.specs.Known.{Added, recordPlace, cellIn, knownCells}
 use Rattle.known.specs.Laws.{cell-at-place, length-cells}
 use Rattle.search.specs.Search.{row, put}
-use Rattle.rows.specs.Rows.{beforeIn, rowIn, rowsIn, Rows, Changed}
+use Rattle.rows.specs.Rows.{beforeIn, rowIn, rowsIn, Rows, Written, Changed}
 use Rattle.rows.specs.RowsLaws.{row-is, row-same, put-row-behind}
-use Rattle.rows.proofs.Written.{Written}
 
 -- the record that was added has the cell
 added-cell : (l m : List ℕ) (room n : ℕ) (c : Cell) → Added l m room n c → cellIn m room n ≡ c
