@@ -19,11 +19,11 @@ sub-left c = search needs
 look-requires : tie.Need-look-requires
 look-requires c κs = search needs
 
-enum-known-i : tie.Need-enum-known-i
-enum-known-i c = search needs
+enum-known-row : tie.Need-enum-known-row
+enum-known-row c = search needs
 
 is-closed-requires : tie.Need-is-closed-requires
-is-closed-requires c κs = ((c .before .before .before .before .before .before .before .before .before .before .before .before .before .before .before .before .before .pre) .0 .rows, (rw ((c .before .before .i) .given .1) at ((c .before .before .before .before .look) .ensures)) .0)
+is-closed-requires c κs = ((c .before .before .before .before .before .before .before .before .before .before .before .before .before .before .before .before .before .pre) .0 .rows, (rw ((c .before .before .row) .given .1) at ((c .before .before .before .before .look) .ensures)) .0)
 
 same-length : tie.Need-same-length
 same-length c = search needs
@@ -32,19 +32,19 @@ same-length-2 : tie.Need-same-length-2
 same-length-2 c = search needs
 
 returns-2 : tie.Need-returns-2
-returns-2 c = skipped-meets ((c .before .before .before .before .before .before .before .before .before .before .before .before .before .before .before .before .before .before .before .args) .plan) _ _ _ _ ((c .before .before .before .before .before .before .before .before .before .before .before .before .before .before .before .before .before .before .before .args) .sizes) _ ((c .before .before .before .before .before .before .before .before .before .before .before .before .before .before .before .before .before .before .before .pre) .0) ((c .before .before .before .before .before .before .before .before .before .before .before .before .pop) .ensures) _ ((rw ((c .before .before .before .before .i) .given .1) at ((c .before .before .before .before .before .before .look) .ensures)) .2) (sym ((c .before .is-closed) .ensures) ∙ (c .if2) .taken)
+returns-2 c = skipped-meets ((c .before .before .before .before .before .before .before .before .before .before .before .before .before .before .before .before .before .before .before .args) .plan) _ _ _ _ ((c .before .before .before .before .before .before .before .before .before .before .before .before .before .before .before .before .before .before .before .args) .sizes) _ ((c .before .before .before .before .before .before .before .before .before .before .before .before .before .before .before .before .before .before .before .pre) .0) ((c .before .before .before .before .before .before .before .before .before .before .before .before .pop) .ensures) _ ((rw ((c .before .before .before .before .row) .given .1) at ((c .before .before .before .before .before .before .look) .ensures)) .2) (sym ((c .before .is-closed) .ensures) ∙ (c .if2) .taken)
 
 g-at-requires : tie.Need-g-at-requires
-g-at-requires c κs = ((c .before .before .before .before .before .before .before .before .before .before .before .before .before .before .before .before .before .before .before .before .pre) .0 .rows, (rw ((c .before .before .before .before .before .i) .given .1) at ((c .before .before .before .before .before .before .before .look) .ensures)) .0)
+g-at-requires c κs = ((c .before .before .before .before .before .before .before .before .before .before .before .before .before .before .before .before .before .before .before .before .pre) .0 .rows, (rw ((c .before .before .before .before .before .row) .given .1) at ((c .before .before .before .before .before .before .before .look) .ensures)) .0)
 
 close-at-requires : tie.Need-close-at-requires
-close-at-requires c κs = ((c .before .before .before .before .before .before .before .before .before .before .before .before .before .before .before .before .before .before .before .before .before .before .pre) .0 .rows, (rw ((c .before .before .before .before .before .before .before .i) .given .1) at ((c .before .before .before .before .before .before .before .before .before .look) .ensures)) .0)
+close-at-requires c κs = ((c .before .before .before .before .before .before .before .before .before .before .before .before .before .before .before .before .before .before .before .before .before .before .pre) .0 .rows, (rw ((c .before .before .before .before .before .before .before .row) .given .1) at ((c .before .before .before .before .before .before .before .before .before .look) .ensures)) .0)
 
 add-t33 : tie.Need-add-t33
 add-t33 c = omega (arith, count-small ((c .before .before .before .before .before .before .before .before .before .before .before .before .before .before .before .before .before .before .before .before .before .before .before .before .before .before .pre) .0))
 
 enter-requires : tie.Need-enter-requires
-enter-requires c κs = (closed-good ((c .before .before .before .before .before .before .before .before .before .before .before .before .before .before .before .before .before .before .before .before .before .before .before .before .before .before .before .before .args) .plan) (problemOf ((c .before .before .before .before .before .before .before .before .before .before .before .before .before .before .before .before .before .before .before .before .before .before .before .before .before .before .before .before .args) .plan) ((c .before .before .before .before .before .before .before .before .before .before .before .before .before .before .before .before .before .before .before .before .before .before .before .before .before .before .before .before .args) .flags .now) ((c .before .before .before .before .before .before .before .before .before .before .before .before .before .before .before .before .before .before .before .before .before .before .before .before .before .before .before .before .args) .count)) _ _ _ ((c .before .before .before .before .before .before .before .before .before .before .before .before .before .before .before .before .before .before .before .before .before .before .before .before .before .before .before .before .args) .sizes) _ ((c .before .before .before .before .before .before .before .before .before .before .before .before .before .before .before .before .before .before .before .before .before .before .before .before .before .before .before .before .pre) .0) ((c .before .before .before .before .before .before .before .before .before .before .before .before .before .before .before .before .before .before .before .before .before .pop) .ensures) _ ((rw ((c .before .before .before .before .before .before .before .before .before .before .before .before .before .i) .given .1) at ((c .before .before .before .before .before .before .before .before .before .before .before .before .before .before .before .look) .ensures)) .2) (sym ((c .before .before .before .before .before .before .before .before .before .before .is-closed) .ensures) ∙ (c .before .before .before .before .before .before .before .before .before .if2) .left) ((rw ((c .before .before .before .before .before .before .before .before .before .before .before .before .before .i) .given .1) at ((c .before .before .before .before .before .before .before .before .before .before .before .before .before .before .before .look) .ensures)) .0) ((rw ((c .before .before .before .before .before .before .before .before .before .before .before .before .before .i) .given .1) at ((c .before .before .before .before .before .before .before .before .before .before .before .before .before .before .before .look) .ensures)) .1) _ ((c .before .before .before .before .before .close-at) .ensures), ((c .before .before .before .before .before .before .before .before .before .before .before .before .before .before .before .before .before .before .before .before .before .before .before .before .before .before .before .before .pre) .1, (row-cost ((c .before .before .before .before .before .before .before .before .before .before .before .before .before .before .before .before .before .before .before .before .before .before .before .before .before .before .before .before .pre) .0) ((c .before .before .before .before .before .before .before .before .before .before .before .before .before .i) .given .0 .0) _ ((rw ((c .before .before .before .before .before .before .before .before .before .before .before .before .before .i) .given .1) at ((c .before .before .before .before .before .before .before .before .before .before .before .before .before .before .before .look) .ensures)) .0) ((c .before .before .before .before .before .before .before .g-at) .ensures), (rw ((c .before .before .before .before .before .before .before .before .before .before .before .before .before .i) .given .1) at ((c .before .before .before .before .before .before .before .before .before .before .before .before .before .before .before .look) .ensures)) .0)))
+enter-requires c κs = (closed-good ((c .before .before .before .before .before .before .before .before .before .before .before .before .before .before .before .before .before .before .before .before .before .before .before .before .before .before .before .before .args) .plan) (problemOf ((c .before .before .before .before .before .before .before .before .before .before .before .before .before .before .before .before .before .before .before .before .before .before .before .before .before .before .before .before .args) .plan) ((c .before .before .before .before .before .before .before .before .before .before .before .before .before .before .before .before .before .before .before .before .before .before .before .before .before .before .before .before .args) .flags .now) ((c .before .before .before .before .before .before .before .before .before .before .before .before .before .before .before .before .before .before .before .before .before .before .before .before .before .before .before .before .args) .count)) _ _ _ ((c .before .before .before .before .before .before .before .before .before .before .before .before .before .before .before .before .before .before .before .before .before .before .before .before .before .before .before .before .args) .sizes) _ ((c .before .before .before .before .before .before .before .before .before .before .before .before .before .before .before .before .before .before .before .before .before .before .before .before .before .before .before .before .pre) .0) ((c .before .before .before .before .before .before .before .before .before .before .before .before .before .before .before .before .before .before .before .before .before .pop) .ensures) _ ((rw ((c .before .before .before .before .before .before .before .before .before .before .before .before .before .row) .given .1) at ((c .before .before .before .before .before .before .before .before .before .before .before .before .before .before .before .look) .ensures)) .2) (sym ((c .before .before .before .before .before .before .before .before .before .before .is-closed) .ensures) ∙ (c .before .before .before .before .before .before .before .before .before .if2) .left) ((rw ((c .before .before .before .before .before .before .before .before .before .before .before .before .before .row) .given .1) at ((c .before .before .before .before .before .before .before .before .before .before .before .before .before .before .before .look) .ensures)) .0) ((rw ((c .before .before .before .before .before .before .before .before .before .before .before .before .before .row) .given .1) at ((c .before .before .before .before .before .before .before .before .before .before .before .before .before .before .before .look) .ensures)) .1) _ ((c .before .before .before .before .before .close-at) .ensures), ((c .before .before .before .before .before .before .before .before .before .before .before .before .before .before .before .before .before .before .before .before .before .before .before .before .before .before .before .before .pre) .1, (row-cost ((c .before .before .before .before .before .before .before .before .before .before .before .before .before .before .before .before .before .before .before .before .before .before .before .before .before .before .before .before .pre) .0) ((c .before .before .before .before .before .before .before .before .before .before .before .before .before .row) .given .0 .0) _ ((rw ((c .before .before .before .before .before .before .before .before .before .before .before .before .before .row) .given .1) at ((c .before .before .before .before .before .before .before .before .before .before .before .before .before .before .before .look) .ensures)) .0) ((c .before .before .before .before .before .before .before .g-at) .ensures), (rw ((c .before .before .before .before .before .before .before .before .before .before .before .before .before .row) .given .1) at ((c .before .before .before .before .before .before .before .before .before .before .before .before .before .before .before .look) .ensures)) .0)))
 
 enum-told : tie.Need-enum-told
 enum-told c = search needs
@@ -56,7 +56,7 @@ same-length-4 : tie.Need-same-length-4
 same-length-4 c = (c .before .before .before .before .enter) .ensures .heap-length ∙ (c .before .before .before .before .before .before .before .before .before .before .before .before .before .before .before .before .before .before .before .before .before .before .before .before .before .before .pop) .ensures .long
 
 returns-3 : tie.Need-returns-3
-returns-3 c = entered-meets ((c .before .before .before .before .before .before .before .before .before .before .before .before .before .before .before .before .before .before .before .before .before .before .before .before .before .before .before .before .before .before .before .before .before .args) .plan) _ _ _ _ ((c .before .before .before .before .before .before .before .before .before .before .before .before .before .before .before .before .before .before .before .before .before .before .before .before .before .before .before .before .before .before .before .before .before .args) .sizes) _ ((c .before .before .before .before .before .before .before .before .before .before .before .before .before .before .before .before .before .before .before .before .before .before .before .before .before .before .before .before .before .before .before .before .before .pre) .0) ((c .before .before .before .before .before .before .before .before .before .before .before .before .before .before .before .before .before .before .before .before .before .before .before .before .before .before .pop) .ensures) _ ((rw ((c .before .before .before .before .before .before .before .before .before .before .before .before .before .before .before .before .before .before .i) .given .1) at ((c .before .before .before .before .before .before .before .before .before .before .before .before .before .before .before .before .before .before .before .before .look) .ensures)) .2) (sym ((c .before .before .before .before .before .before .before .before .before .before .before .before .before .before .before .is-closed) .ensures) ∙ (c .before .before .before .before .before .before .before .before .before .before .before .before .before .before .if2) .left) ((rw ((c .before .before .before .before .before .before .before .before .before .before .before .before .before .before .before .before .before .before .i) .given .1) at ((c .before .before .before .before .before .before .before .before .before .before .before .before .before .before .before .before .before .before .before .before .look) .ensures)) .0) ((rw ((c .before .before .before .before .before .before .before .before .before .before .before .before .before .before .before .before .before .before .i) .given .1) at ((c .before .before .before .before .before .before .before .before .before .before .before .before .before .before .before .before .before .before .before .before .look) .ensures)) .1) _ ((c .before .before .before .before .before .before .before .before .before .before .close-at) .ensures) _ ((c .before .before .before .before .before .before .before .before .before .before .before .before .g-at) .ensures) _ _ _ ((c .before .before .before .before .enter) .ensures)
+returns-3 c = entered-meets ((c .before .before .before .before .before .before .before .before .before .before .before .before .before .before .before .before .before .before .before .before .before .before .before .before .before .before .before .before .before .before .before .before .before .args) .plan) _ _ _ _ ((c .before .before .before .before .before .before .before .before .before .before .before .before .before .before .before .before .before .before .before .before .before .before .before .before .before .before .before .before .before .before .before .before .before .args) .sizes) _ ((c .before .before .before .before .before .before .before .before .before .before .before .before .before .before .before .before .before .before .before .before .before .before .before .before .before .before .before .before .before .before .before .before .before .pre) .0) ((c .before .before .before .before .before .before .before .before .before .before .before .before .before .before .before .before .before .before .before .before .before .before .before .before .before .before .pop) .ensures) _ ((rw ((c .before .before .before .before .before .before .before .before .before .before .before .before .before .before .before .before .before .before .row) .given .1) at ((c .before .before .before .before .before .before .before .before .before .before .before .before .before .before .before .before .before .before .before .before .look) .ensures)) .2) (sym ((c .before .before .before .before .before .before .before .before .before .before .before .before .before .before .before .is-closed) .ensures) ∙ (c .before .before .before .before .before .before .before .before .before .before .before .before .before .before .if2) .left) ((rw ((c .before .before .before .before .before .before .before .before .before .before .before .before .before .before .before .before .before .before .row) .given .1) at ((c .before .before .before .before .before .before .before .before .before .before .before .before .before .before .before .before .before .before .before .before .look) .ensures)) .0) ((rw ((c .before .before .before .before .before .before .before .before .before .before .before .before .before .before .before .before .before .before .row) .given .1) at ((c .before .before .before .before .before .before .before .before .before .before .before .before .before .before .before .before .before .before .before .before .look) .ensures)) .1) _ ((c .before .before .before .before .before .before .before .before .before .before .close-at) .ensures) _ ((c .before .before .before .before .before .before .before .before .before .before .before .before .g-at) .ensures) _ _ _ ((c .before .before .before .before .enter) .ensures)
 
 same-length-5 : tie.Need-same-length-5
 same-length-5 c = search needs
@@ -75,7 +75,7 @@ advance-spec =
     pop-requires
     sub-left
     look-requires
-    enum-known-i
+    enum-known-row
     is-closed-requires
     same-length
     same-length-2
