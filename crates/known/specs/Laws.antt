@@ -7,12 +7,13 @@ use Prim.Native.Nat.{ℕ, zero, suc, _+_, _*_, _/_, _≤_, _<_}
 use native.Mathlib.Nat.{mul-lt-mul-of-pos-right, div-lt-iff-lt-mul}
 use native.Mathlib.Omega.{arith}
 use lib.ListN.{length, getD}
+use lib.Seq.{getD-at}
 use Rattle.refusal.specs.declared.Cell.{Cell}
 use Rattle.words.specs.Word.{Order, little, word, stored, Bytes}
 use Rattle.words.specs.Laws.{word-lt, length-stored, word-stored-apart}
 use Rattle.cell.specs.Laws.{Words}
 use Rattle.known.specs.declared.Found.the-variants.{At, Nowhere}
-use Rattle.known.specs.Known.{mixedOf, bucketOf, recordPlace, cellIn, linkIn, headIn, cellsIn, knownCells, Known}
+use Rattle.known.specs.Known.{mixedOf, bucketOf, recordPlace, cellIn, linkIn, headIn, cellsIn, knownCells, Known, Added}
 use Rattle.known.specs.ChainLaws.{chain-same}
 use Rattle.known.specs.Found.{Right}
 
@@ -75,6 +76,15 @@ unfolding cellsIn
 cell-at-place l room i zero j d below = absurd (omega arith)
 cell-at-place l room i (suc n) zero d below = ap (cellIn l room) (omega arith)
 cell-at-place l room i (suc n) (suc j) d below = cell-at-place l room (suc i) n j d (omega arith) ∙ ap (cellIn l room) (omega arith)
+
+-- the cell that was added is that of the last record
+pub added-cell : {l l′ : List ℕ} {room n : ℕ} {c : Cell} → Added l l′ room n c → cellIn l′ room n ≡ c
+added-cell {l} {l′} {room} {n} {c} added =
+    let place : 0 + n ≡ n = omega arith in
+    ap (cellIn l′ room) (sym place)
+    ∙ sym (cell-at-place l′ room 0 (n + 1) n c (omega arith))
+    ∙ ap (λ (cells : List Cell). getD cells n c) (added .more)
+    ∙ getD-at (knownCells l room n) c [] c n (length-cells l room 0 n)
 
 -- records with the same cells have the same list
 pub cells-same : (l l′ : List ℕ) (room i n : ℕ) → ((j : ℕ) → i ≤ j → j < i + n → cellIn l′ room j ≡ cellIn l room j) → cellsIn l′ room i n ≡ cellsIn l room i n

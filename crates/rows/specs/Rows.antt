@@ -13,7 +13,7 @@ use Rattle.words.specs.Word.{little, word}
 use Rattle.known.specs.Known.{recordPlace, cellIn, Known}
 use Rattle.known.specs.declared.Found.{Found}
 use Rattle.known.specs.declared.Found.the-variants.{At, Nowhere}
-use Rattle.search.specs.Search.{Row, row, find, put, close}
+use Rattle.search.specs.Search.{Row, row, find}
 
 abbrev pub markIn : List ℕ → ℕ → ℕ → ℕ
 markIn l room i = word little 4 l (recordPlace room i + 20)

@@ -2,7 +2,7 @@
 ghost use mathlib.Core.Path.{_≡_};
 ghost use Prim.Native.Nat.{ℕ, _+_, _≤_, _<_};
 ghost use Rattle.refusal.specs.Table.{rawOf};
-ghost use Rattle.known.specs.Known.{Roomy, Known, cellIn};
+ghost use Rattle.known.specs.Known.{Roomy, cellIn};
 ghost use Rattle.search.specs.Search.{put, close};
 ghost use Rattle.rows.specs.Rows.{beforeIn, rowIn, rowsIn, Rows, Looked, Written, Changed};
 use known::Found;
