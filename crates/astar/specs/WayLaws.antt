@@ -2,12 +2,11 @@
 -- between the front and the rest of the output, which are as they were. Assumes nothing.
 use mathlib.Core.Path.{_≡_, refl, sym, ap, ap₂, _∙_}
 use mathlib.Core.Bool.{Bool, true, false, cond}
-use mathlib.Core.List.{List, [], _∷_, _++_, map, flatMap, append-assoc}
+use mathlib.Core.List.{List, [], _∷_, map}
 use Prim.Native.Nat.{ℕ, zero, suc, _+_, _-_, _*_, _≤_, _<_}
 use native.Mathlib.Omega.{arith}
 use lib.Dec.{eqb}
-use lib.ListN.{length, take, drop, length-append, length-drop, length-map, take-append-drop}
-use lib.Seq.{length-take-le, take-append-le, take-take, drop-at}
+use lib.ListN.{length, length-map}
 use borrow.Author.Tests.{le-leb, lt-leb}
 use Rattle.refusal.specs.declared.Cell.{Cell}
 use Rattle.refusal.specs.declared.Room.the-variants as room
@@ -15,7 +14,6 @@ use Rattle.refusal.specs.declared.Refusal.the-variants.{NoRoom}
 use Rattle.refusal.specs.Table.{rawOf}
 use Rattle.words.specs.Word.{Bytes}
 use Rattle.cell.specs.Cell.{sameCell}
-use Rattle.cell.specs.Bytes.{cellBytes}
 use Rattle.layer.specs.Changes.{changed}
 use Rattle.listing.specs.Listing.{roomIn, cellsLaid, laidFrom, cellPut}
 use Rattle.listing.specs.Laws.{cells-within, none-laid-from, laid-from-front, length-laid-from, cell-before}
