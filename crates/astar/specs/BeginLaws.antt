@@ -2,7 +2,7 @@
 use mathlib.Core.Path.{_≡_, refl, ap, _∙_}
 use mathlib.Core.Bool.{false}
 use mathlib.Core.List.{List, [], _∷_}
-use Prim.Native.Nat.{ℕ, _*_, _≤_, _<_}
+use Prim.Native.Nat.{ℕ, _*_, _≤_}
 use native.Mathlib.Omega.{arith}
 use lib.Ieee.{nanBits}
 use lib.ListN.{length}
@@ -22,6 +22,7 @@ use Rattle.astar.specs.declared.Plan.{Plan}
 use Rattle.astar.specs.declared.Sizes.{Sizes}
 use Rattle.astar.specs.declared.Step.the-variants as step
 use Rattle.astar.specs.State.{entriesIn, problemOf, Cost, Good, Meets}
+use Rattle.astar.specs.Call.{Rooms}
 use Rattle.astar.specs.StateLaws.{sizesOf, entryTo, Entered, entered-entries, entered-good}
 
 no-cost : Cost 0
@@ -54,18 +55,18 @@ module _ (p : Plan) (flags : List ℕ) (count : ℕ) (told : Told ℕ) where
   unbegun-meets w h r e = record { same = ap (begin P) e; good = tt; workspace-length = refl; heap-length = refl }
 
   module _ (w₀ w h w′ h′ : List ℕ) (x : ℕ) (e : is x ≡ told) (x-cost : Cost x) (words : Words (p .start)) (rows : Rows w (p .known) 0) (kept : length w ≡ length w₀)
-      (waits : (0 < p .waiting) × (p .waiting ≤ 65536)) (size : 32 * p .waiting ≤ length h) (first : cellIn w′ (p .known) 0 ≡ p .start)
+      (rooms : Rooms (p .known) (p .waiting) w₀ h) (first : cellIn w′ (p .known) 0 ≡ p .start)
       (changed : Changed w w′ (p .known) 0 1 (put (rawOf (p .start)) 0 (rawOf (cellIn w′ (p .known) 0)) (rowsIn w (p .known) 0))) (pushes : Pushed h h′ 0 (entryTo x (p .start) 0)) where
     began : Entered p w h w′ h′ none-known 1 x 0 (rawOf (cellIn w′ (p .known) 0)) (p .start)
     unfolding rowsIn rowsFrom find
     began =
         record {
-          good = empty-good p w h rows (waits .1) size;
+          good = empty-good p w h rows (rooms .waits .small) (rooms .size);
           f-cost = x-cost;
           g-cost = no-cost;
           words = words;
           unclosed = refl;
-          room = waits .0;
+          room = rooms .waits .some;
           changed = changed;
           push = pushes;
         }

@@ -2,11 +2,12 @@
 -- goal answers with cost 0.0, zero expansions, though mixed or blocked; parity of start, then goal; heuristic overflow." "The workspace may hold anything at entry and is all zero at return,
 -- answered or refused; only BadWorkspace leaves it untouched." A known cell takes 44 bytes of the one buffer and 64 bytes of it are a head for a search that is paused; a waiting entry takes 32 bytes of the
 -- other. Definitions only. Assumes nothing.
-use mathlib.Core.Bool.{Bool, cond, _&&_}
+use mathlib.Core.Path.{_≡_}
+use mathlib.Core.Bool.{Bool, true, cond, _&&_}
 use mathlib.Core.List.{List}
-use Prim.Native.Nat.{ℕ, _+_, _*_}
+use Prim.Native.Nat.{ℕ, _+_, _*_, _≤_}
 use lib.Dec.{leb, ltb}
-use lib.ListN.{length, replicate}
+use lib.ListN.{length}
 use Rattle.refusal.specs.declared.Cell.{Cell}
 use Rattle.refusal.specs.declared.Refusal.the-variants.{BadWorkspace, BadLayer, BadRule}
 use Rattle.cell.specs.declared.CellAnswer.{CellAnswer}
@@ -14,8 +15,11 @@ use Rattle.cell.specs.declared.CellAnswer.the-variants as cell
 use Rattle.cell.specs.Bytes.{fromBytesOf}
 use Rattle.layer.specs.Layer.{rowsOf, isSound}
 use Rattle.layer.specs.Changes.{Changed}
+use Rattle.known.specs.Known.{Roomy}
+use Rattle.known.specs.Workspace.{isRoom, Room, zeros}
 use Rattle.search.specs.Search.{Result, none-found}
 use Rattle.search.specs.Plan.{searchOf}
+use Rattle.astar.specs.declared.Plan.{Plan}
 use Rattle.astar.specs.declared.SearchAnswer.{SearchAnswer}
 use Rattle.astar.specs.declared.SearchAnswer.the-variants as answer
 use Rattle.astar.specs.Answer.{answeredIn}
@@ -30,14 +34,19 @@ pub record Searched : Type 0 where
 abbrev pub searched : SearchAnswer → List ℕ → List ℕ → List ℕ → Searched
 searched a w h l = record { said = a; known = w; waiting = h; output = l }
 
-abbrev pub zeros : List ℕ → List ℕ
-zeros l = replicate (length l) 0
-
-abbrev pub isRoom : ℕ → Bool
-isRoom n = leb 1 n && leb n 65536
-
 unfoldable pub hasRooms : ℕ → ℕ → List ℕ → List ℕ → Bool
 hasRooms known waiting w h = (isRoom known && isRoom waiting) && (leb (44 * known + 64) (length w) && leb (32 * waiting) (length h))
+
+-- two buffers that hold what the caller names room for
+pub record Rooms (known waiting : ℕ) (w h : List ℕ) : Type 0 where
+  pub roomy : Roomy w known
+  pub waits : Room waiting
+  pub size : 32 * waiting ≤ length h
+
+-- and a flag layer that is sound: a plan can be searched
+pub record Ready (p : Plan) (w h flags : List ℕ) (n : ℕ) : Type 0 where
+  pub rooms : Rooms (p .known) (p .waiting) w h
+  pub sound : isSound 20 flags n ≡ true
 
 -- BadLayer, BadRule, then the search
 abbrev pub resultUnder : Cell → Cell → ℕ → ℕ → ℕ → ℕ → List ℕ → ℕ → Result

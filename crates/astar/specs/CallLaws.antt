@@ -1,14 +1,12 @@
 -- The cases of the call: rooms that were tested, the bytes of both ends, the layer and the rule, the search; and both workspaces are zeros. Assumes nothing.
 use mathlib.Core.Path.{_≡_, refl, sym, ap, _∙_}
 use mathlib.Core.Bool.{Bool, true, false, cond, _&&_}
-use mathlib.Core.List.{List, [], _∷_, _++_, append-nil}
-use Prim.Native.Nat.{ℕ, _+_, _-_, _*_, _≤_, _<_}
-use native.Mathlib.Nat.{sub-zero}
+use mathlib.Core.List.{List, [], _∷_}
+use Prim.Native.Nat.{ℕ, _+_, _*_, _≤_, _<_}
 use native.Mathlib.Omega.{arith}
 use borrow.Author.Tests.{leb-true, lt-ltb, le-ltb}
 use lib.Dec.{leb}
-use lib.ListN.{length, take, drop, replicate}
-use lib.Seq.{drop-length}
+use lib.ListN.{length}
 use Rattle.refusal.specs.declared.Cell.{Cell}
 use Rattle.refusal.specs.declared.Refusal.{Refusal}
 use Rattle.refusal.specs.declared.Refusal.the-variants.{BadWorkspace, BadLayer, BadRule}
@@ -27,7 +25,8 @@ use Rattle.layer.specs.Layer.{Row, rowsOf, isSound}
 use Rattle.layer.specs.Changes.{Changed, changed}
 use Rattle.listing.specs.Listing.{roomIn, cellsLaid, cellPut}
 use Rattle.listing.specs.Laws.{cell-first}
-use Rattle.known.specs.Known.{Roomy}
+use Rattle.known.specs.Workspace.{isRoom, zeros}
+use Rattle.known.specs.WorkspaceLaws.{room-tested, zeros-same}
 use Rattle.search.specs.Search.{Result, found, none-found, run, begin}
 use Rattle.search.specs.Plan.{distanceBits, planOf, resultOf, popsFor, resultBy, searchOf}
 use Rattle.search.specs.Besides.{cell-raw}
@@ -35,7 +34,7 @@ use Rattle.astar.specs.declared.SearchAnswer.{SearchAnswer}
 use Rattle.astar.specs.declared.SearchAnswer.the-variants as answer
 use Rattle.astar.specs.Answer.{answeredIn}
 use Rattle.astar.specs.WayLaws.{way-found}
-use Rattle.astar.specs.Call.{searched, zeros, isRoom, hasRooms, resultUnder, resultIn, wiped, searchIn}
+use Rattle.astar.specs.Call.{searched, hasRooms, Rooms, resultUnder, resultIn, wiped, searchIn}
 
 -- results that are the same have the same answer
 pub answers : {x y : Result} (l : List ℕ) → x ≡ y → answeredIn x l ≡ answeredIn y l
@@ -48,21 +47,6 @@ stay-found c l out words fits put =
 
 -- ---- rooms
 
-pub record Room (n : ℕ) : Type 0 where
-  pub some : 0 < n
-  pub small : n ≤ 65536
-
-pub room-tested : (n : ℕ) → isRoom n ≡ true → Room n
-room-tested n e =
-    let tests = both (leb 1 n) (leb n 65536) e in
-    record { some = omega (arith, leb-true 1 n (tests .0)); small = leb-true n 65536 (tests .1) }
-
--- two buffers that hold what the caller names room for
-pub record Rooms (known waiting : ℕ) (w h : List ℕ) : Type 0 where
-  pub roomy : Roomy w known
-  pub waits : (0 < waiting) × (waiting ≤ 65536)
-  pub size : 32 * waiting ≤ length h
-
 pub rooms-tested : (known waiting : ℕ) (w h : List ℕ) → hasRooms known waiting w h ≡ true → Rooms known waiting w h
 unfolding hasRooms
 rooms-tested known waiting w h e =
@@ -70,10 +54,9 @@ rooms-tested known waiting w h e =
     let rooms = both (isRoom known) (isRoom waiting) (tests .0) in
     let sizes = both (leb (44 * known + 64) (length w)) (leb (32 * waiting) (length h)) (tests .1) in
     let few = room-tested known (rooms .0) in
-    let entries = room-tested waiting (rooms .1) in
     record {
       roomy = record { size = omega (arith, leb-true (44 * known + 64) (length w) (sizes .0)); small = few .small; some = few .some };
-      waits = (entries .some, entries .small);
+      waits = room-tested waiting (rooms .1);
       size = leb-true (32 * waiting) (length h) (sizes .1);
     }
 
@@ -132,14 +115,6 @@ module _ (s e : List ℕ) (known waiting limit rule : ℕ) (flags : List ℕ) (n
 
 -- ---- the call
 
--- zeros from the first byte to the last
-all-zeros : (w m : List ℕ) {exit : List ℕ} → length m ≡ length w → exit ≡ take 0 m ++ (replicate (length m - 0) 0 ++ drop (length m) m) → exit ≡ zeros w
-all-zeros w m long zeroed =
-    zeroed
-    ∙ ap (λ (rest : List ℕ). replicate (length m - 0) 0 ++ rest) (drop-length m)
-    ∙ append-nil (replicate (length m - 0) 0)
-    ∙ ap (λ (n : ℕ). replicate n 0) (sub-zero (length m) ∙ long)
-
 module _ (s e : List ℕ) (known waiting limit rule : ℕ) (flags : List ℕ) (n : ℕ) (w h l : List ℕ) where
   abbrev answered : Changed SearchAnswer
   answered = answeredIn (resultIn (fromBytesOf s) (fromBytesOf e) known waiting limit rule flags n) l
@@ -152,10 +127,9 @@ module _ (s e : List ℕ) (known waiting limit rule : ℕ) (flags : List ℕ) (n
   searched-bad f = sym (search-by-rooms false f)
 
   pub searched-wiped : {said : SearchAnswer} {output known-exit waiting-exit : List ℕ} (m k : List ℕ) → hasRooms known waiting w h ≡ true → changed said output ≡ answered
-      → length m ≡ length w → known-exit ≡ take 0 m ++ (replicate (length m - 0) 0 ++ drop (length m) m)
-      → length k ≡ length h → waiting-exit ≡ take 0 k ++ (replicate (length k - 0) 0 ++ drop (length k) k)
+      → length m ≡ length w → known-exit ≡ zeros m → length k ≡ length h → waiting-exit ≡ zeros k
       → searched said known-exit waiting-exit output ≡ searchIn s e known waiting limit rule flags n w h l
   searched-wiped {said} {output} m k f told long zeroed longer emptied =
-      (λ i. searched said (all-zeros w m long zeroed i) (all-zeros h k longer emptied i) output)
+      (λ i. searched said ((zeroed ∙ zeros-same w m long) i) ((emptied ∙ zeros-same h k longer) i) output)
       ∙ ap (λ (c : Changed SearchAnswer). wiped c w h) told
       ∙ sym (search-by-rooms true f)

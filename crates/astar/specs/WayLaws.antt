@@ -2,12 +2,11 @@
 -- between the front and the rest of the output, which are as they were. Assumes nothing.
 use mathlib.Core.Path.{_≡_, refl, sym, ap, ap₂, _∙_}
 use mathlib.Core.Bool.{Bool, true, false, cond}
-use mathlib.Core.List.{List, [], _∷_, _++_, map, flatMap, append-assoc}
+use mathlib.Core.List.{List, [], _∷_, map}
 use Prim.Native.Nat.{ℕ, zero, suc, _+_, _-_, _*_, _≤_, _<_}
 use native.Mathlib.Omega.{arith}
 use lib.Dec.{eqb}
-use lib.ListN.{length, take, drop, length-append, length-drop, length-map, take-append-drop}
-use lib.Seq.{length-take-le, take-append-le, take-take, drop-at}
+use lib.ListN.{length, length-map}
 use borrow.Author.Tests.{le-leb, lt-leb}
 use Rattle.refusal.specs.declared.Cell.{Cell}
 use Rattle.refusal.specs.declared.Room.the-variants as room
@@ -15,10 +14,9 @@ use Rattle.refusal.specs.declared.Refusal.the-variants.{NoRoom}
 use Rattle.refusal.specs.Table.{rawOf}
 use Rattle.words.specs.Word.{Bytes}
 use Rattle.cell.specs.Cell.{sameCell}
-use Rattle.cell.specs.Bytes.{cellBytes}
 use Rattle.layer.specs.Changes.{changed}
-use Rattle.listing.specs.Listing.{roomIn, cellsLaid, cellPut}
-use Rattle.listing.specs.Laws.{cells-within, length-cells-bytes}
+use Rattle.listing.specs.Listing.{roomIn, cellsLaid, laidFrom, cellPut}
+use Rattle.listing.specs.Laws.{cells-within, none-laid-from, laid-from-front, length-laid-from, cell-before}
 use Rattle.known.specs.Known.{cellIn}
 use Rattle.known.specs.Laws.{cell-words}
 use Rattle.search.specs.Search.{Row, found, find, beforeOf, traced}
@@ -139,45 +137,6 @@ module _ {p : Plan} {w : List ℕ} {z : Sizes} {i at left cells : ℕ} (a : Coun
           together = omega (arith, a .together);
         }
 
--- ---- cells within a buffer
-
--- the cells' bytes from index n on
-unfoldable pub laidFrom : ℕ → List Cell → List ℕ → List ℕ
-unfolding cellBytes
-laidFrom n cs l = take (16 * n) l ++ (flatMap cellBytes cs ++ drop (16 * (n + length cs)) l)
-
-none-laid : (n : ℕ) (l : List ℕ) → laidFrom n [] l ≡ l
-unfolding laidFrom flatMap
-none-laid n l =
-    let place : 16 * (n + 0) ≡ 16 * n = omega arith in
-    ap (λ (k : ℕ). take (16 * n) l ++ drop k l) place ∙ take-append-drop (16 * n) l
-
-all-laid : (cs : List Cell) (l : List ℕ) → laidFrom 0 cs l ≡ cellsLaid cs l
-unfolding laidFrom cellsLaid
-all-laid cs l =
-    let place : 16 * (0 + length cs) ≡ 16 * length cs = omega arith in
-    ap (λ (k : ℕ). flatMap cellBytes cs ++ drop k l) place
-
-length-laid-from : (n : ℕ) (cs : List Cell) (l : List ℕ) → 16 * (n + length cs) ≤ length l → length (laidFrom n cs l) ≡ length l
-unfolding laidFrom
-length-laid-from n cs l h =
-    length-append (take (16 * n) l) (flatMap cellBytes cs ++ drop (16 * (n + length cs)) l)
-    ∙ omega (arith, length-take-le (16 * n) l (omega arith), length-append (flatMap cellBytes cs) (drop (16 * (n + length cs)) l), length-cells-bytes cs, length-drop (16 * (n + length cs)) l)
-
--- one more cell before them
-cell-before : (n : ℕ) (c : Cell) (cs : List Cell) (l : List ℕ) → 16 * (n + 1) ≤ length l → cellPut (laidFrom (n + 1) cs l) n c ≡ laidFrom n (c ∷ cs) l
-unfolding laidFrom cellPut flatMap
-cell-before n c cs l h =
-    let front = take (16 * (n + 1)) l in
-    let rest = drop (16 * (n + 1 + length cs)) l in
-    let behind = flatMap cellBytes cs ++ rest in
-    let long : length front ≡ 16 * (n + 1) = length-take-le (16 * (n + 1)) l h in
-    let place : 16 * (n + 1 + length cs) ≡ 16 * (n + length (c ∷ cs)) = omega arith in
-    let kept : take (16 * n) (front ++ behind) ≡ take (16 * n) l = take-append-le (16 * n) front behind (omega (arith, long)) ∙ take-take (16 * n) (16 * (n + 1)) l (omega arith) in
-    ap₂ (λ (a b : List ℕ). a ++ (cellBytes c ++ b)) kept (drop-at front behind (16 * (n + 1)) long)
-    ∙ ap (λ (m : List ℕ). take (16 * n) l ++ m)
-    (sym (append-assoc (cellBytes c) (flatMap cellBytes cs) rest) ∙ ap (λ (k : ℕ). (cellBytes c ++ flatMap cellBytes cs) ++ drop k l) place)
-
 -- ---- a route that is written from its end
 
 -- the cells that were passed are written; that of record `at` comes to `place`
@@ -200,7 +159,7 @@ writing-start {p} {w} {z} {i} {cells} {entry} below e within =
       tracing = record { below = below; whole = refl };
       placed = omega (arith, e, way-some p w z i);
       fits = omega (arith, e, within);
-      bytes = sym (none-laid (cells - 1 + 1) entry);
+      bytes = sym (none-laid-from (cells - 1 + 1) entry);
     }
 
 module _ {p : Plan} {w : List ℕ} {z : Sizes} {i : ℕ} {entry now : List ℕ} {at place : ℕ} (a : Writing p w z i entry now at place) where
@@ -248,7 +207,7 @@ module _ {p : Plan} {w : List ℕ} {z : Sizes} {i : ℕ} {entry now : List ℕ} 
       let last = a .tracing .whole ∙ traced-last (rawOf (p .start)) (rowsIn w (p .known) (z .known)) (a .left) this (a .later) (omega (arith, a .placed, ap length (a .tracing .whole))) in
       cell-written bytes c read now′ (put ∙ ap (λ (k : ℕ). cellPut now k c) (sym zeroth))
       ∙ ap (λ (k : ℕ). laidFrom k (map cellOf (this ∷ a .later)) entry) zeroth
-      ∙ all-laid (map cellOf (this ∷ a .later)) entry
+      ∙ laid-from-front (map cellOf (this ∷ a .later)) entry
       ∙ ap (λ (cs : List ℕ). cellsLaid (map cellOf cs) entry) (sym last)
 
 -- ---- the answer

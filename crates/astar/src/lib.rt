@@ -372,22 +372,22 @@ fn advance(
     let left = sizes.waiting - 1;
     let c = first.cell;
     match rows::look(workspace, plan.known, sizes.known, c) {
-        Found::At(i) => {
-            if rows::is_closed(workspace, plan.known, sizes.known, i) {
+        Found::At(row) => {
+            if rows::is_closed(workspace, plan.known, sizes.known, row) {
                 return Step::Going(Sizes {
                     known: sizes.known,
                     waiting: left,
                     count: sizes.count,
                 });
             }
-            let g = rows::g_at(workspace, plan.known, sizes.known, i);
-            rows::close_at(workspace, plan.known, sizes.known, i);
+            let g = rows::g_at(workspace, plan.known, sizes.known, row);
+            rows::close_at(workspace, plan.known, sizes.known, row);
             let closed = Sizes {
                 known: sizes.known,
                 waiting: left,
                 count: sizes.count + 1,
             };
-            enter(workspace, heap, flags, count, plan, closed, i, g)
+            enter(workspace, heap, flags, count, plan, closed, row, g)
         }
         // Every cell that waits is known.
         Found::Nowhere => Step::Going(sizes),

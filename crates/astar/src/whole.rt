@@ -1,21 +1,17 @@
 // The whole search: from lent bytes to a route in a buffer.
 ghost use mathlib.Core.Path.{_≡_};
-ghost use mathlib.Core.Bool.{true};
 ghost use mathlib.Core.List.{[], _∷_};
-ghost use Prim.Native.Nat.{_*_, _≤_, _<_};
 ghost use lib.ListN.{length};
 ghost use Rattle.refusal.specs.Table.{rawOf};
 ghost use Rattle.cell.specs.Cell.{distanceCells};
 ghost use Rattle.cell.specs.Bytes.{fromBytesOf};
-ghost use Rattle.layer.specs.Layer.{isSound, rowsOf};
+ghost use Rattle.layer.specs.Layer.{rowsOf};
 ghost use Rattle.layer.specs.Changes.{changed};
-ghost use Rattle.known.specs.Known.{Roomy};
 ghost use Rattle.search.specs.Search.{begin, run, found};
 ghost use Rattle.search.specs.Plan.{distanceBits, resultOf, popsFor, searchOf};
 ghost use Rattle.astar.specs.State.{problemOf, Meets, Ran};
 ghost use Rattle.astar.specs.Answer.{answeredIn, resultShown, Ended};
-ghost use Rattle.astar.specs.Call.{isRoom, hasRooms, resultUnder, resultIn, searched, searchIn};
-ghost use Rattle.astar.specs.CallLaws.{Rooms};
+ghost use Rattle.astar.specs.Call.{hasRooms, Rooms, Ready, resultUnder, resultIn, searched, searchIn};
 use crate::Estimate;
 use crate::Plan;
 use crate::Route;
@@ -33,9 +29,7 @@ use waiting::Entry;
 
 // The start is known and waits.
 fn begin(workspace: &mut [u8], heap: &mut [u8], flags: &[u8], count: usize, plan: Plan) -> Step
-    requires { ⌜ Roomy (now workspace) (plan .known) ⌝ }
-    requires { ⌜ (0 < plan .waiting) × (plan .waiting ≤ 65536) ⌝ }
-    requires { ⌜ 32 * plan .waiting ≤ length (now heap) ⌝ }
+    requires { ⌜ Rooms (plan .known) (plan .waiting) (now workspace) (now heap) ⌝ }
     ensures { λ r. ⌜ Meets (problemOf plan (now (flags .entry)) count) plan (now (workspace .entry)) (now (heap .entry)) (now (workspace .exit)) (now (heap .exit)) r (begin (problemOf plan (now (flags .entry)) count) (distanceBits (distanceCells (plan .start) (plan .goal)))) ⌝ }
 {
     let start = plan.start;
@@ -71,10 +65,7 @@ fn run_from_start(
     count: usize,
     plan: Plan,
 ) -> Step
-    requires { ⌜ Roomy (now workspace) (plan .known) ⌝ }
-    requires { ⌜ (0 < plan .waiting) × (plan .waiting ≤ 65536) ⌝ }
-    requires { ⌜ 32 * plan .waiting ≤ length (now heap) ⌝ }
-    requires { ⌜ isSound 20 (now flags) count ≡ true ⌝ }
+    requires { ⌜ Ready plan (now workspace) (now heap) (now flags) count ⌝ }
     ensures { λ r. ⌜ Ran (problemOf plan (now (flags .entry)) count) plan (now (workspace .entry)) (now (heap .entry)) (now (workspace .exit)) (now (heap .exit)) r (begin (problemOf plan (now (flags .entry)) count) (distanceBits (distanceCells (plan .start) (plan .goal)))) ⌝ }
 {
     let first = begin(workspace, heap, flags, count, plan);
@@ -120,10 +111,7 @@ fn between(
     plan: Plan,
     output: &mut [u8],
 ) -> SearchAnswer
-    requires { ⌜ Roomy (now workspace) (plan .known) ⌝ }
-    requires { ⌜ (0 < plan .waiting) × (plan .waiting ≤ 65536) ⌝ }
-    requires { ⌜ 32 * plan .waiting ≤ length (now heap) ⌝ }
-    requires { ⌜ isSound 20 (now flags) count ≡ true ⌝ }
+    requires { ⌜ Ready plan (now workspace) (now heap) (now flags) count ⌝ }
     ensures { λ r. ⌜ changed r (now (output .exit)) ≡ answeredIn (resultOf (run (problemOf plan (now (flags .entry)) count) (popsFor (plan .known) (plan .waiting)) (begin (problemOf plan (now (flags .entry)) count) (distanceBits (distanceCells (plan .start) (plan .goal)))))) (now (output .entry)) ⌝ }
     ensures { λ r. ⌜ length (now (workspace .exit)) ≡ length (now (workspace .entry)) ⌝ }
     ensures { λ r. ⌜ length (now (heap .exit)) ≡ length (now (heap .entry)) ⌝ }
@@ -156,10 +144,7 @@ fn search(
     plan: Plan,
     output: &mut [u8],
 ) -> SearchAnswer
-    requires { ⌜ Roomy (now workspace) (plan .known) ⌝ }
-    requires { ⌜ (0 < plan .waiting) × (plan .waiting ≤ 65536) ⌝ }
-    requires { ⌜ 32 * plan .waiting ≤ length (now heap) ⌝ }
-    requires { ⌜ isSound 20 (now flags) count ≡ true ⌝ }
+    requires { ⌜ Ready plan (now workspace) (now heap) (now flags) count ⌝ }
     ensures { λ r. ⌜ changed r (now (output .exit)) ≡ answeredIn (searchOf (plan .start) (plan .goal) (plan .known) (plan .waiting) (plan .limit) (plan .rule) (rowsOf 20 (now (flags .entry)) count)) (now (output .entry)) ⌝ }
     ensures { λ r. ⌜ length (now (workspace .exit)) ≡ length (now (workspace .entry)) ⌝ }
     ensures { λ r. ⌜ length (now (heap .exit)) ≡ length (now (heap .entry)) ⌝ }
@@ -178,21 +163,11 @@ fn search(
     }
 }
 
-// A room is named from 1 to 65,536.
-fn is_room(n: usize) -> bool
-    ensures { λ r. ⌜ r ≡ isRoom n ⌝ }
-{
-    if 1 <= n {
-        return n <= 65536;
-    }
-    false
-}
-
 fn has_rooms(known: usize, waiting: usize, workspace: &[u8], heap: &[u8]) -> bool
     ensures { λ r. ⌜ r ≡ hasRooms known waiting (now (workspace .entry)) (now (heap .entry)) ⌝ }
 {
-    if is_room(known) {
-        if is_room(waiting) {
+    if known::is_room(known) {
+        if known::is_room(waiting) {
             if 44 * known + 64 <= workspace.len() {
                 return 32 * waiting <= heap.len();
             }
@@ -210,9 +185,7 @@ fn search_in_layer(
     plan: Plan,
     output: &mut [u8],
 ) -> SearchAnswer
-    requires { ⌜ Roomy (now workspace) (plan .known) ⌝ }
-    requires { ⌜ (0 < plan .waiting) × (plan .waiting ≤ 65536) ⌝ }
-    requires { ⌜ 32 * plan .waiting ≤ length (now heap) ⌝ }
+    requires { ⌜ Rooms (plan .known) (plan .waiting) (now workspace) (now heap) ⌝ }
     ensures { λ r. ⌜ changed r (now (output .exit)) ≡ answeredIn (resultUnder (plan .start) (plan .goal) (plan .known) (plan .waiting) (plan .limit) (plan .rule) (now (flags .entry)) count) (now (output .entry)) ⌝ }
     ensures { λ r. ⌜ length (now (workspace .exit)) ≡ length (now (workspace .entry)) ⌝ }
     ensures { λ r. ⌜ length (now (heap .exit)) ≡ length (now (heap .entry)) ⌝ }
@@ -296,10 +269,8 @@ pub fn astar_with_limit(
         heap,
         output,
     );
-    let size = workspace.len();
-    layer::records::zero(workspace, 0, size);
-    let entries = heap.len();
-    layer::records::zero(heap, 0, entries);
+    known::wipe(workspace);
+    known::wipe(heap);
     answer
 }
 

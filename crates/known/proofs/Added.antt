@@ -7,12 +7,12 @@ use native.Mathlib.Omega.{arith}
 use lib.ListN.{length, drop}
 use Rattle.refusal.specs.declared.Cell.{Cell}
 use Rattle.words.specs.Word.{little, word, stored, Apart}
-use Rattle.words.specs.Laws.{length-stored, word-stored, word-stored-apart}
+use Rattle.words.specs.Laws.{length-stored, word-stored, word-stored-apart, drop-after-stored}
 use Rattle.cell.specs.Laws.{Words}
 use Rattle.known.specs.Chain.{Chain}
 use Rattle.known.specs.ChainLaws.{chain-longer}
 use Rattle.known.specs.Known.{Known, Added, bucketOf, recordPlace, cellIn, linkIn, headIn, knownCells}
-use Rattle.known.specs.Laws.{bucket-lt, cell-same, cells-more, cells-same, drop-after-stored}
+use Rattle.known.specs.Laws.{bucket-lt, cell-same, cells-more, cells-same}
 
 -- ---- the bytes after each of the four stores
 

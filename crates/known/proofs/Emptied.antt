@@ -5,9 +5,10 @@ use Prim.Native.Nat.{ℕ, _*_, _≤_}
 use native.Mathlib.Omega.{arith}
 use lib.ListN.{length, drop, replicate, length-append, length-replicate, length-drop}
 use lib.Seq.{drop-at}
+use Rattle.words.specs.Word.{little}
+use Rattle.words.specs.Laws.{word-zeros}
 use Rattle.known.specs.ChainLaws.{chain-none}
 use Rattle.known.specs.Known.{Roomy, Emptied, bucketOf, cellIn, headIn, linkIn}
-use Rattle.known.specs.Laws.{word-zeros}
 
 -- the bytes with zeros for the heads
 abbrev withoutHeads : List ℕ → ℕ → List ℕ
@@ -26,7 +27,7 @@ none-known l room roomy =
       known = record {
         roomy = record { size = omega arith; small = roomy .small; some = roomy .some };
         count = omega arith;
-        chain = chain-none (λ i. bucketOf (cellIn after room i) room) (headIn after) (linkIn after room) room (λ b below. word-zeros 4 (4 * room) (4 * b) (drop (4 * room) l) (omega arith));
+        chain = chain-none (λ i. bucketOf (cellIn after room i) room) (headIn after) (linkIn after room) room (λ b below. word-zeros little 4 (4 * room) (4 * b) (drop (4 * room) l) (omega arith));
       };
       rest = drop-at (replicate (4 * room) 0) (drop (4 * room) l) (4 * room) (length-replicate (4 * room) 0);
       length-kept = long;

@@ -3,17 +3,17 @@
 use mathlib.Core.Path.{_≡_, refl, sym, ap, ap₂, subst, _∙_}
 use mathlib.Core.List.{List, [], _∷_, _++_, List·Memᴰ, List·Memᴰ·head, List·Memᴰ·tail, List·Memᴰ·not-nil, List·Memᴰ·cases-cons}
 use mathlib.Core.Logic.{_⊎_, inl, inr}
-use Prim.Native.Nat.{ℕ, zero, suc, _+_, _-_, _*_, _/_, _≤_, _<_}
+use Prim.Native.Nat.{ℕ, zero, suc, _+_, _*_, _/_, _≤_, _<_}
 use native.Mathlib.Nat.{mul-lt-mul-of-pos-right, div-lt-iff-lt-mul}
 use native.Mathlib.Omega.{arith}
-use lib.ListN.{length, drop, getD, replicate}
-use lib.Seq.{drop-drop}
+use lib.ListN.{length, getD}
+use lib.Seq.{getD-at}
 use Rattle.refusal.specs.declared.Cell.{Cell}
-use Rattle.words.specs.Word.{Order, little, number, ordered, word, stored, Bytes}
-use Rattle.words.specs.Laws.{word-lt, length-stored, word-stored-apart, drop-stored}
+use Rattle.words.specs.Word.{Order, little, word, stored, Bytes}
+use Rattle.words.specs.Laws.{word-lt, length-stored, word-stored-apart}
 use Rattle.cell.specs.Laws.{Words}
 use Rattle.known.specs.declared.Found.the-variants.{At, Nowhere}
-use Rattle.known.specs.Known.{mixedOf, bucketOf, recordPlace, cellIn, linkIn, headIn, cellsIn, knownCells, Known}
+use Rattle.known.specs.Known.{mixedOf, bucketOf, recordPlace, cellIn, linkIn, headIn, cellsIn, knownCells, Known, Added}
 use Rattle.known.specs.ChainLaws.{chain-same}
 use Rattle.known.specs.Found.{Right}
 
@@ -31,26 +31,6 @@ mixed-lt c = omega arith
 pub bucket-lt : (c : Cell) (room : ℕ) → 0 < room → bucketOf c room < room
 unfolding bucketOf
 bucket-lt c room some = shared-lt (mixedOf c) room (mixed-lt c) some
-
--- ---- bytes
-
--- a store changes nothing behind it
-pub drop-after-stored : (o : Order) (n : ℕ) (l : List ℕ) (p v q : ℕ) → p + n ≤ q → drop q (stored o n l p v) ≡ drop q l
-drop-after-stored o n l p v q after =
-    let place : p + n + (q - (p + n)) ≡ q = omega arith in
-    ap (λ (k : ℕ). drop k (stored o n l p v)) (sym place)
-    ∙ sym (drop-drop (q - (p + n)) (p + n) (stored o n l p v))
-    ∙ ap (drop (q - (p + n))) (drop-stored o n l p v)
-    ∙ drop-drop (q - (p + n)) (p + n) l
-    ∙ ap (λ (k : ℕ). drop k l) place
-
--- zeros make the number 0
-pub word-zeros : (n k p : ℕ) (m : List ℕ) → p + n ≤ k → word little n (replicate k 0 ++ m) p ≡ 0
-unfolding word ordered number
-word-zeros zero k p m within = refl
-word-zeros (suc n) zero p m within = absurd (omega arith)
-word-zeros (suc n) (suc k) zero m within = omega (arith, word-zeros n k 0 m (omega arith))
-word-zeros (suc n) (suc k) (suc p) m within = word-zeros (suc n) k p m (omega arith)
 
 -- ---- the cell of a record
 
@@ -96,6 +76,15 @@ unfolding cellsIn
 cell-at-place l room i zero j d below = absurd (omega arith)
 cell-at-place l room i (suc n) zero d below = ap (cellIn l room) (omega arith)
 cell-at-place l room i (suc n) (suc j) d below = cell-at-place l room (suc i) n j d (omega arith) ∙ ap (cellIn l room) (omega arith)
+
+-- the cell that was added is that of the last record
+pub added-cell : {l l′ : List ℕ} {room n : ℕ} {c : Cell} → Added l l′ room n c → cellIn l′ room n ≡ c
+added-cell {l} {l′} {room} {n} {c} added =
+    let place : 0 + n ≡ n = omega arith in
+    ap (cellIn l′ room) (sym place)
+    ∙ sym (cell-at-place l′ room 0 (n + 1) n c (omega arith))
+    ∙ ap (λ (cells : List Cell). getD cells n c) (added .more)
+    ∙ getD-at (knownCells l room n) c [] c n (length-cells l room 0 n)
 
 -- records with the same cells have the same list
 pub cells-same : (l l′ : List ℕ) (room i n : ℕ) → ((j : ℕ) → i ≤ j → j < i + n → cellIn l′ room j ≡ cellIn l room j) → cellsIn l′ room i n ≡ cellsIn l room i n

@@ -3,3 +3,5 @@ pub mod ChainLaws
 pub mod Known
 pub mod Found
 pub mod Laws
+pub mod Workspace
+pub mod WorkspaceLaws

@@ -3,6 +3,7 @@ ghost use mathlib.Core.Path.{_≡_};
 ghost use Prim.Native.Nat.{_+_, _≤_, _<_};
 ghost use Rattle.known.specs.Known.{Roomy, mixedOf, bucketOf, cellIn, Known, Added, Emptied};
 ghost use Rattle.known.specs.Found.{Right};
+ghost use Rattle.known.specs.Workspace.{isRoom, zeros};
 use refusal::Cell;
 
 // Where a cell stands among the known ones.
@@ -81,4 +82,22 @@ pub fn clear(workspace: &mut [u8], room: usize)
     ensures { λ _. ⌜ Emptied (now (workspace .entry)) (now (workspace .exit)) room ⌝ }
 {
     layer::records::zero(workspace, 0, 4 * room);
+}
+
+// A room is named from 1 to 65,536.
+pub fn is_room(n: usize) -> bool
+    ensures { λ r. ⌜ r ≡ isRoom n ⌝ }
+{
+    if 1 <= n {
+        return n <= 65536;
+    }
+    false
+}
+
+// Zeros in the whole of a workspace, when the call that it was lent to returns.
+pub fn wipe(workspace: &mut [u8])
+    ensures { λ _. ⌜ now (workspace .exit) ≡ zeros (now (workspace .entry)) ⌝ }
+{
+    let size = workspace.len();
+    layer::records::zero(workspace, 0, size);
 }

@@ -12,7 +12,8 @@ use lib.Dec.{leb, ltb}
 use lib.ListN.{length}
 use Rattle.refusal.specs.declared.Cell.{Cell}
 use Rattle.refusal.specs.Table.{rawOf}
-use Rattle.words.specs.Word.{big, word}
+use Rattle.words.specs.Word.{big, word, Bytes}
+use Rattle.words.specs.Laws.{word-lt}
 use Rattle.cell.specs.Cell.{sameCell, lessCell}
 use Rattle.cell.specs.Bytes.{cellAt}
 use Rattle.cell.specs.Laws.{less-transitive}
@@ -31,6 +32,10 @@ row-cell w l i = refl
 pub row-kept : (w n : ℕ) (l : List ℕ) (i : ℕ) → n ≡ w - 16 → word big n l (w * i + 16) ≡ rowAt w l i .kept
 unfolding rowAt
 row-kept w n l i e = ap (λ (n : ℕ). word big n l (w * i + 16)) e
+
+-- of which the flags are 32 bits
+pub flags-word : (l : List ℕ) (i : ℕ) → Bytes l → rowAt 20 l i .kept < 4294967296
+flags-word l i bytes = omega (arith, row-kept 20 4 l i refl, word-lt big 4 l (20 * i + 16) bytes)
 
 module _ (w : ℕ) (l : List ℕ) where
   -- record k is below the next one

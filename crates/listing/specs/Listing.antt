@@ -28,6 +28,11 @@ unfoldable pub cellsLaid : List Cell → List ℕ → List ℕ
 unfolding cellBytes
 cellsLaid cs l = flatMap cellBytes cs ++ drop (16 * length cs) l
 
+-- the cells' bytes from index n of a buffer on
+unfoldable pub laidFrom : ℕ → List Cell → List ℕ → List ℕ
+unfolding cellBytes
+laidFrom n cs l = take (16 * n) l ++ (flatMap cellBytes cs ++ drop (16 * (n + length cs)) l)
+
 -- the buffer after a cell's bytes are put at index i
 unfoldable pub cellPut : List ℕ → ℕ → Cell → List ℕ
 unfolding cellBytes

@@ -8,6 +8,5 @@ pub mod RingLaws
 pub mod RingParts
 pub mod AmongLaws
 pub mod StateLaws
-pub mod RoomLaws
 pub mod ListedLaws
 pub mod CallLaws

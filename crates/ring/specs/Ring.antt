@@ -6,7 +6,7 @@ use mathlib.Core.Bool.{Bool, true, false, cond, _||_, _&&_}
 use mathlib.Core.List.{List, [], _∷_, _++_}
 use Prim.Native.Nat.{ℕ, zero, suc, _+_, _*_}
 use lib.Dec.{leb, ltb}
-use lib.ListN.{length, replicate}
+use lib.ListN.{length}
 use Rattle.refusal.specs.declared.Cell.{Cell}
 use Rattle.refusal.specs.declared.Room.the-variants.{Known, Waiting, Output}
 use Rattle.refusal.specs.declared.Refusal.{Refusal}
@@ -21,6 +21,7 @@ use Rattle.layer.specs.Changes.{Changed, changed}
 use Rattle.layer.specs.declared.CountAnswer.{CountAnswer}
 use Rattle.layer.specs.declared.CountAnswer.the-variants as count
 use Rattle.listing.specs.Listing.{roomIn, cellsLaid}
+use Rattle.known.specs.Workspace.{isRoom, zeros}
 use Rattle.ring.specs.declared.Rooms.{Rooms}
 
 -- what a walk has seen: the known cells in the order of first sight, those of them that it found for its next step, and the cells that it listed
@@ -126,21 +127,18 @@ pub record Ringed : Type 0 where
 abbrev pub ringed : CountAnswer → List ℕ → List ℕ → Ringed
 ringed a w l = record { said = a; workspace = w; output = l }
 
--- "is all zero at return, answered or refused"
-abbrev pub zeros : List ℕ → List ℕ
-zeros w = replicate (length w) 0
-
 -- the answer and the output
 abbrev pub listedBy : Walk → List ℕ → Changed CountAnswer
 listedBy (stopped r) l = changed (count.Refused r) l
 listedBy (going s) l = changed (count.Cells (length (s .listed))) (cellsLaid (s .listed) l)
 
+-- "is all zero at return, answered or refused"
 abbrev pub wiped : Changed CountAnswer → List ℕ → Ringed
 wiped a w = ringed (a .said) (zeros w) (a .bytes)
 
 -- "room for known cells and waiting entries, each 1..=65,536": 44 bytes for a known cell, none for a waiting entry, which is a known cell's
 unfoldable pub hasRooms : ℕ → ℕ → List ℕ → Bool
-hasRooms known waiting w = (leb 1 known && leb known 65536) && ((leb 1 waiting && leb waiting 65536) && leb (44 * known) (length w))
+hasRooms known waiting w = isRoom known && (isRoom waiting && leb (44 * known) (length w))
 
 abbrev pub roomsOf : ℕ → ℕ → List ℕ → Rooms
 roomsOf known waiting l = record { known = known; waiting = waiting; output = roomIn l }

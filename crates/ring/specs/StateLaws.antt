@@ -5,11 +5,10 @@ use mathlib.Core.List.{List, [], _∷_, _++_}
 use Prim.Native.Nat.{ℕ, suc, _+_, _-_, _≤_, _<_}
 use native.Mathlib.Numerals.{add-one}
 use native.Mathlib.Omega.{arith}
-use lib.ListN.{length, getD}
-use lib.Seq.{getD-at}
+use lib.ListN.{length}
 use Rattle.refusal.specs.declared.Cell.{Cell}
 use Rattle.known.specs.Known.{cellIn, cellsIn, knownCells, Known, Added}
-use Rattle.known.specs.Laws.{length-cells, cells-more, cell-at-place, cells-same}
+use Rattle.known.specs.Laws.{length-cells, cells-more, added-cell, cells-same}
 use Rattle.ring.specs.Ring.{sight, noted, further}
 use Rattle.ring.specs.State.{cellsBetween, sightIn, Grown}
 
@@ -59,15 +58,6 @@ first-between l room from to less =
 
 pub length-between : (l : List ℕ) (room from to : ℕ) → length (cellsBetween l room from to) ≡ to - from
 length-between l room from to = length-cells l room from (to - from)
-
--- the cell added is that of the last record
-added-cell : {l l′ : List ℕ} {room n : ℕ} {c : Cell} → Added l l′ room n c → cellIn l′ room n ≡ c
-added-cell {l} {l′} {room} {n} {c} added =
-    let place : 0 + n ≡ n = omega arith in
-    ap (cellIn l′ room) (sym place)
-    ∙ sym (cell-at-place l′ room 0 (n + 1) n c (omega arith))
-    ∙ ap (λ (cells : List Cell). getD cells n c) (added .more)
-    ∙ getD-at (knownCells l room n) c [] c n (length-cells l room 0 n)
 
 -- a cell added is noted
 pub sight-added : {l l′ : List ℕ} {room n : ℕ} {c : Cell} (every : Bool) (to i : ℕ) → Added l l′ room n c → to ≤ n → i ≤ to → sightIn every l′ room (n + 1) to i ≡ noted c (sightIn every l room n to i)

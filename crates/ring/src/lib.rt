@@ -1,9 +1,8 @@
 // Rings and shells around a cell, breadth first: the cells at one number of steps after the other. The known cells stand in the workspace in the order of first sight, and that is
 // also the order in which they wait; nothing is written to the output before all is found.
 ghost use mathlib.Core.Path.{_≡_};
-ghost use mathlib.Core.Bool.{true, false, _&&_};
+ghost use mathlib.Core.Bool.{true, false};
 ghost use Prim.Native.Nat.{_-_, _≤_};
-ghost use lib.Dec.{leb};
 ghost use lib.ListN.{length};
 ghost use Rattle.cell.specs.Bytes.{fromBytesOf};
 ghost use Rattle.layer.specs.Changes.{changed};
@@ -233,21 +232,11 @@ fn walk_from(
     }
 }
 
-// A room is named from 1 to 65,536.
-fn is_room(n: usize) -> bool
-    ensures { λ r. ⌜ r ≡ (leb 1 n && leb n 65536) ⌝ }
-{
-    if 1 <= n {
-        return n <= 65536;
-    }
-    false
-}
-
 fn has_rooms(known: usize, waiting: usize, workspace: &[u8]) -> bool
     ensures { λ r. ⌜ r ≡ hasRooms known waiting (now (workspace .entry)) ⌝ }
 {
-    if is_room(known) {
-        if is_room(waiting) {
+    if known::is_room(known) {
+        if known::is_room(waiting) {
             return 44 * known <= workspace.len();
         }
     }
@@ -275,8 +264,7 @@ fn around(
         output: listing::room(output),
     };
     let answer = walk_from(center, every, rooms, k, workspace, output);
-    let size = workspace.len();
-    layer::records::zero(workspace, 0, size);
+    known::wipe(workspace);
     answer
 }
 

@@ -2,13 +2,13 @@
 use mathlib.Core.Path.{_≡_, sym, ap, _∙_}
 use mathlib.Core.Bool.{true, false, _&&_}
 use mathlib.Core.List.{List}
-use Prim.Native.Nat.{ℕ, _%_}
-use lib.Dec.{eqb}
+use Prim.Native.Nat.{ℕ}
 use borrow.Author.Tests.{eq-eqb, ne-eqb}
 use Rattle.refusal.specs.declared.Cell.{Cell}
 use Rattle.layer.specs.declared.Place.{Place}
 use Rattle.layer.specs.declared.Place.the-variants.{At, Before}
 use Rattle.layer.specs.Layer.{Row, Held, heldOf, rowAt, rowsOf, isSound}
+use Rattle.layer.specs.Flags.{isBlocked}
 use Rattle.layer.specs.Places.{Stands}
 use Rattle.layer.specs.Laws.{found-held, missing-held}
 use Rattle.route.specs.Route.{blockedBy, isShut}
@@ -24,7 +24,7 @@ unfolding isShut
 not-asked {rule} rows c e = ap (λ t. t && blockedBy (heldOf c rows)) (sym (ne-eqb rule 1 e))
 
 module _ (l : List ℕ) (n : ℕ) (c : Cell) {rule : ℕ} {p : Place} (avoids : rule ≡ 1) (stands : Stands 20 l n c p) where
-  pub found : (i : ℕ) {flags : ℕ} → isSound 20 l n ≡ true → p ≡ At i → flags ≡ rowAt 20 l i .kept → eqb (flags % 2) 1 ≡ isShut rule (rowsOf 20 l n) c
+  pub found : (i : ℕ) {flags : ℕ} → isSound 20 l n ≡ true → p ≡ At i → flags ≡ rowAt 20 l i .kept → isBlocked flags ≡ isShut rule (rowsOf 20 l n) c
   found i sound q e = asked (rowsOf 20 l n) c avoids (found-held 20 l c n i sound stands q e)
 
   pub missing : (i : ℕ) → p ≡ Before i → false ≡ isShut rule (rowsOf 20 l n) c

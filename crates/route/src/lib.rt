@@ -75,7 +75,7 @@ pub fn is_shut(flags: &[u8], count: usize, rule: u32, c: Cell) -> bool
     if rule == 1 {
         let place = layer::find(flags, 20, count, c);
         match place {
-            Place::At(i) => layer::kept_at(flags, 20, i) % 2 == 1,
+            Place::At(i) => layer::flags::is_blocked(layer::kept_at(flags, 20, i) as u32),
             Place::Before(_i) => false,
         }
     } else {

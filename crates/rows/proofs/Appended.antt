@@ -1,40 +1,27 @@
 -- A row behind the others: a record that known has added, and its row written. Assumes nothing.
 use mathlib.Core.Path.{_≡_, sym, ap, _∙_}
 use mathlib.Core.Bool.{false}
-use mathlib.Core.List.{List, [], _∷_, _++_}
+use mathlib.Core.List.{List}
 use Prim.Native.Nat.{ℕ, _+_, _≤_, _<_}
 use native.Mathlib.Decide.{ℕ-discrete}
 use native.Mathlib.Omega.{arith}
 use lib.Dec.{ltb}
-use lib.ListN.{getD}
-use lib.Seq.{getD-append-seam}
 use Rattle.refusal.specs.declared.Cell.{Cell}
 use Rattle.refusal.specs.Table.{rawOf}
 use Rattle.words.specs.Word.{little, word, Bytes}
 use Rattle.cell.specs.Laws.{Words}
-use Rattle.known.specs.Known.{Added, recordPlace, cellIn, knownCells}
-use Rattle.known.specs.Laws.{cell-at-place, length-cells}
+use Rattle.known.specs.Known.{Added, recordPlace, cellIn}
+use Rattle.known.specs.Laws.{added-cell}
 use Rattle.search.specs.Search.{row, put}
-use Rattle.rows.specs.Rows.{beforeIn, rowIn, rowsIn, Rows, Changed}
+use Rattle.rows.specs.Rows.{beforeIn, rowIn, rowsIn, Rows, Written, Changed}
 use Rattle.rows.specs.RowsLaws.{row-is, row-same, put-row-behind}
-use Rattle.rows.proofs.Written.{Written}
-
--- the record that was added has the cell
-added-cell : (l m : List ℕ) (room n : ℕ) (c : Cell) → Added l m room n c → cellIn m room n ≡ c
-added-cell l m room n c added =
-    let place : n ≡ 0 + n = omega arith in
-    ap (cellIn m room) place
-    ∙ sym (cell-at-place m room 0 (n + 1) n c (omega arith))
-    ∙ ap (λ (cells : List Cell). getD cells n c) (added .more)
-    ∙ ap (λ (k : ℕ). getD (knownCells l room n ++ (c ∷ [])) k c) (sym (length-cells l room 0 n))
-    ∙ getD-append-seam (knownCells l room n) c [] c
 
 module _ (l m l′ : List ℕ) (room n : ℕ) (c : Cell) (g before : ℕ) (rows : Rows l room n) (within : before ≤ n) (nowhere : (j : ℕ) → j < n → cellIn l room j ≡ c → ⊥) (added : Added l m room n c) (wrote : Written m l′ room n 0 g before) where
   cell-old : (j : ℕ) → j < n → cellIn l′ room j ≡ cellIn l room j
   cell-old j old = wrote .cells j ∙ added .cells j old
 
   pub cell-new : cellIn l′ room n ≡ c
-  cell-new = wrote .cells n ∙ added-cell l m room n c added
+  cell-new = wrote .cells n ∙ added-cell added
 
   field-old : (j p k : ℕ) → j < n → 20 ≤ p → p + k ≤ 40 → word little k l′ (recordPlace room j + p) ≡ word little k l (recordPlace room j + p)
   field-old j p k old from to = wrote .others j p k (omega arith) from to ∙ added .fields j p k from to

@@ -2,30 +2,19 @@
 use mathlib.Core.Path.{_≡_, sym, ap, subst⁻¹, _∙_}
 use mathlib.Core.Logic.{_≢_}
 use mathlib.Core.List.{List}
-use Prim.Native.Nat.{ℕ, _+_, _*_, _^_, _≤_, _<_}
+use Prim.Native.Nat.{ℕ, _+_, _*_, _^_, _<_}
 use native.Mathlib.Decide.{ℕ-discrete}
 use native.Mathlib.Omega.{arith}
 use lib.Dec.{ltb}
 use lib.ListN.{length, drop}
 use Rattle.refusal.specs.Table.{rawOf}
 use Rattle.words.specs.Word.{little, word, stored, Bytes, Apart}
-use Rattle.words.specs.Laws.{length-stored, word-stored, word-stored-apart}
+use Rattle.words.specs.Laws.{length-stored, word-stored, word-stored-apart, drop-after-stored}
 use Rattle.known.specs.Known.{Roomy, Known, recordPlace, cellIn}
-use Rattle.known.specs.Laws.{cell-beside-field, known-beside-field, drop-after-stored}
+use Rattle.known.specs.Laws.{cell-beside-field, known-beside-field}
 use Rattle.search.specs.Search.{Row, row, put, close}
-use Rattle.rows.specs.Rows.{markIn, gIn, beforeIn, rowIn, rowsIn, Rows, Changed}
+use Rattle.rows.specs.Rows.{markIn, gIn, beforeIn, rowIn, rowsIn, Rows, Written, Changed}
 use Rattle.rows.specs.RowsLaws.{row-is, row-same, put-row, close-row}
-
--- record i has these fields; all else stays
-pub record Written (l l′ : List ℕ) (room i mark g before : ℕ) : Type 0 where
-  pub known : (n : ℕ) → Known l room n → Known l′ room n
-  pub cells : (j : ℕ) → cellIn l′ room j ≡ cellIn l room j
-  pub others : (j p k : ℕ) → j ≢ i → 20 ≤ p → p + k ≤ 40 → word little k l′ (recordPlace room j + p) ≡ word little k l (recordPlace room j + p)
-  pub mark-is : markIn l′ room i ≡ mark
-  pub g-is : gIn l′ room i ≡ g
-  pub before-is : beforeIn l′ room i ≡ before
-  pub rest : drop (44 * room) l′ ≡ drop (44 * room) l
-  pub length-kept : length l′ ≡ length l
 
 -- ---- the mark alone
 

@@ -1,9 +1,10 @@
 -- The rows of a search in the workspace of its known cells. In a record of `known`, whose first 20 bytes are the cell and its link, a search keeps its mark at 20, 4 bytes, not 0 where the
 -- cell is closed; its g at 24, 8 bytes; and at 32, 4 bytes, the number of the record of the cell before it on the way. Little-endian. Definitions only. Assumes nothing.
 use mathlib.Core.Path.{_≡_}
+use mathlib.Core.Logic.{_≢_}
 use mathlib.Core.List.{List, [], _∷_}
 use mathlib.Core.Option.{none, some}
-use Prim.Native.Nat.{ℕ, zero, suc, _+_, _*_, _<_}
+use Prim.Native.Nat.{ℕ, zero, suc, _+_, _*_, _≤_, _<_}
 use lib.Dec.{ltb}
 use lib.ListN.{length, drop}
 use Rattle.refusal.specs.declared.Cell.{Cell}
@@ -12,7 +13,7 @@ use Rattle.words.specs.Word.{little, word}
 use Rattle.known.specs.Known.{recordPlace, cellIn, Known}
 use Rattle.known.specs.declared.Found.{Found}
 use Rattle.known.specs.declared.Found.the-variants.{At, Nowhere}
-use Rattle.search.specs.Search.{Row, row, find, put, close}
+use Rattle.search.specs.Search.{Row, row, find}
 
 abbrev pub markIn : List ℕ → ℕ → ℕ → ℕ
 markIn l room i = word little 4 l (recordPlace room i + 20)
@@ -50,6 +51,17 @@ pub record Rows (l : List ℕ) (room n : ℕ) : Type 0 where
 abbrev pub Looked : List ℕ → ℕ → ℕ → Cell → Found → Type 0
 Looked l room n c (At i) = (i < n) × (cellIn l room i ≡ c) × (find (rawOf c) (rowsIn l room n) ≡ some (rowIn l room i))
 Looked l room n c Nowhere = ((j : ℕ) → j < n → cellIn l room j ≡ c → ⊥) × (find (rawOf c) (rowsIn l room n) ≡ none)
+
+-- record i has this mark, g and record before; all else stays
+pub record Written (l l′ : List ℕ) (room i mark g before : ℕ) : Type 0 where
+  pub known : (n : ℕ) → Known l room n → Known l′ room n
+  pub cells : (j : ℕ) → cellIn l′ room j ≡ cellIn l room j
+  pub others : (j p k : ℕ) → j ≢ i → 20 ≤ p → p + k ≤ 40 → word little k l′ (recordPlace room j + p) ≡ word little k l (recordPlace room j + p)
+  pub mark-is : markIn l′ room i ≡ mark
+  pub g-is : gIn l′ room i ≡ g
+  pub before-is : beforeIn l′ room i ≡ before
+  pub rest : drop (44 * room) l′ ≡ drop (44 * room) l
+  pub length-kept : length l′ ≡ length l
 
 -- rows that became others; the cells of the n records that were there, and what stands behind the records, stay
 pub record Changed (l l′ : List ℕ) (room n n′ : ℕ) (rows : List Row) : Type 0 where

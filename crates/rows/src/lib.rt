@@ -2,9 +2,9 @@
 ghost use mathlib.Core.Path.{_≡_};
 ghost use Prim.Native.Nat.{ℕ, _+_, _≤_, _<_};
 ghost use Rattle.refusal.specs.Table.{rawOf};
-ghost use Rattle.known.specs.Known.{Roomy, Known, cellIn};
+ghost use Rattle.known.specs.Known.{Roomy, cellIn};
 ghost use Rattle.search.specs.Search.{put, close};
-ghost use Rattle.rows.specs.Rows.{beforeIn, rowIn, rowsIn, Rows, Looked, Changed};
+ghost use Rattle.rows.specs.Rows.{beforeIn, rowIn, rowsIn, Rows, Looked, Written, Changed};
 use known::Found;
 use refusal::Cell;
 
@@ -50,6 +50,19 @@ pub fn close_at(workspace: &mut [u8], room: usize, count: usize, i: usize)
     words::write32_little(workspace, 4 * room + 40 * i + 20, 1);
 }
 
+// The row of record i: not closed, with its g and the record of the cell before it.
+fn write_row(workspace: &mut [u8], room: usize, i: usize, g: u64, before: usize)
+    requires { ⌜ Roomy (now workspace) room ⌝ }
+    requires { ⌜ i < room ⌝ }
+    requires { ⌜ before < room ⌝ }
+    ensures { λ _. ⌜ Written (now (workspace .entry)) (now (workspace .exit)) room i 0 g before ⌝ }
+{
+    let at = 4 * room + 40 * i;
+    words::write32_little(workspace, at + 20, 0);
+    words::write64_little(workspace, at + 24, g);
+    words::write32_little(workspace, at + 32, before as u32);
+}
+
 // A way to a known cell that is not closed: its g and the record of the cell before it from now on.
 pub fn lower(workspace: &mut [u8], room: usize, count: usize, i: usize, g: u64, before: usize)
     requires { ⌜ Rows (now workspace) room count ⌝ }
@@ -57,10 +70,7 @@ pub fn lower(workspace: &mut [u8], room: usize, count: usize, i: usize, g: u64, 
     requires { ⌜ before < count ⌝ }
     ensures { λ _. ⌜ Changed (now (workspace .entry)) (now (workspace .exit)) room count count (put (rawOf (cellIn (now (workspace .entry)) room i)) g (rawOf (cellIn (now (workspace .entry)) room before)) (rowsIn (now (workspace .entry)) room count)) ⌝ }
 {
-    let at = 4 * room + 40 * i;
-    words::write32_little(workspace, at + 20, 0);
-    words::write64_little(workspace, at + 24, g);
-    words::write32_little(workspace, at + 32, before as u32);
+    write_row(workspace, room, i, g, before);
 }
 
 // A cell that is not known yet, with its g and the record of the cell before it, which may be its own.
@@ -73,10 +83,7 @@ pub fn append(workspace: &mut [u8], room: usize, count: usize, c: Cell, g: u64, 
     ensures { λ _. ⌜ Changed (now (workspace .entry)) (now (workspace .exit)) room count (count + 1) (put (rawOf c) g (rawOf (cellIn (now (workspace .exit)) room before)) (rowsIn (now (workspace .entry)) room count)) ⌝ }
 {
     known::add(workspace, room, count, c);
-    let at = 4 * room + 40 * count;
-    words::write32_little(workspace, at + 20, 0);
-    words::write64_little(workspace, at + 24, g);
-    words::write32_little(workspace, at + 32, before as u32);
+    write_row(workspace, room, count, g, before);
 }
 
 // No row, whatever the bytes hold.

@@ -205,6 +205,30 @@ bytesOf-part o n l p h b =
     let long : length (take n (drop p l)) ≡ n = length-take-le n (drop p l) (rw length-drop (omega arith)) in
     ap (bytesOf o n) (word-part o n l p) ∙ bytesOf-word o n (take n (drop p l)) long (bytes-take n (drop p l) (bytes-drop p l b))
 
+-- ---- zeros
+
+zeros-part : (n k p : ℕ) (m : List ℕ) → p + n ≤ k → take n (drop p (replicate k 0 ++ m)) ≡ replicate n 0
+zeros-part zero k p m within = refl
+zeros-part (suc n) zero p m within = absurd (omega arith)
+zeros-part (suc n) (suc k) zero m within = ap (λ (l : List ℕ). 0 ∷ l) (zeros-part n k 0 m (omega arith))
+zeros-part (suc n) (suc k) (suc p) m within = zeros-part (suc n) k p m (omega arith)
+
+zeros-reversed : (n : ℕ) (l : List ℕ) → number l ≡ 0 → number (reverseAux (replicate n 0) l) ≡ 0
+unfolding number
+zeros-reversed zero l e = e
+zeros-reversed (suc n) l e = zeros-reversed n (0 ∷ l) (omega arith)
+
+number-zeros : (o : Order) (n : ℕ) → number (ordered o (replicate n 0)) ≡ 0
+unfolding ordered number
+number-zeros big n = zeros-reversed n [] refl
+number-zeros little zero = refl
+number-zeros little (suc n) = omega (arith, number-zeros little n)
+
+-- zeros make the number 0
+pub word-zeros : (o : Order) (n k p : ℕ) (m : List ℕ) → p + n ≤ k → word o n (replicate k 0 ++ m) p ≡ 0
+unfolding word
+word-zeros o n k p m within = ap (λ (l : List ℕ). number (ordered o l)) (zeros-part n k p m within) ∙ number-zeros o n
+
 -- ---- the range of a word
 
 pub word-lt : (o : Order) (n : ℕ) (l : List ℕ) (p : ℕ) → Bytes l → word o n l p < 256 ^ n
@@ -231,11 +255,12 @@ pub take-stored : (o : Order) (n : ℕ) (l : List ℕ) (p v : ℕ) → take p (s
 unfolding stored
 take-stored o n l p v = run-before l p (bytesOf o n v) 0 p (omega arith)
 
-pub drop-stored : (o : Order) (n : ℕ) (l : List ℕ) (p v : ℕ) → drop (p + n) (stored o n l p v) ≡ drop (p + n) l
+-- what stands behind the word stays
+pub drop-after-stored : (o : Order) (n : ℕ) (l : List ℕ) (p v q : ℕ) → p + n ≤ q → drop q (stored o n l p v) ≡ drop q l
 unfolding stored
-drop-stored o n l p v =
+drop-after-stored o n l p v q after =
     let long = length-bytesOf o n v in
-    run-after l p (bytesOf o n v) (p + n) (omega arith)
+    run-after l p (bytesOf o n v) q (omega arith)
 
 -- the n bytes at p
 pub part-stored : (o : Order) (n : ℕ) (l : List ℕ) (p v : ℕ) → p + n ≤ length l → take n (drop p (stored o n l p v)) ≡ bytesOf o n v

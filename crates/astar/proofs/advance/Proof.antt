@@ -1,3 +1,4 @@
+-- Nothing waits; or the first entry is of a closed cell, or of one that is closed now and entered.
 use mathlib.Core.Path.{sym, _∙_}
 use native.Mathlib.Omega.{arith}
 use Rattle.astar.specs.State.{problemOf}
@@ -8,7 +9,11 @@ use Rattle.astar.proofs.advance.Statement.{statement}
 use Rattle.astar.proofs.advance.Tie as tie
 
 returns : tie.Need-returns
-returns c = nowhere-meets ((c .before .before .before .before .before .before .before .args) .plan) _ _ _ _ ((c .before .before .before .before .before .before .before .args) .sizes) ((c .before .before .if1) .taken)
+returns c =
+    let at-if1 = c .before .before in
+    let entry = at-if1 .before .before .before .before .before in
+    let args = entry .args in
+    nowhere-meets (args .plan) _ _ _ _ (args .sizes) (at-if1 .if1 .taken)
 
 pop-requires : tie.Need-pop-requires
 pop-requires c κs = search needs
@@ -19,11 +24,15 @@ sub-left c = search needs
 look-requires : tie.Need-look-requires
 look-requires c κs = search needs
 
-enum-known-i : tie.Need-enum-known-i
-enum-known-i c = search needs
+enum-known-row : tie.Need-enum-known-row
+enum-known-row c = search needs
 
 is-closed-requires : tie.Need-is-closed-requires
-is-closed-requires c κs = ((c .before .before .before .before .before .before .before .before .before .before .before .before .before .before .before .before .before .pre) .0 .rows, (rw ((c .before .before .i) .given .1) at ((c .before .before .before .before .look) .ensures)) .0)
+is-closed-requires c κs =
+    let at-row = c .before .before in
+    let at-look = at-row .before .before in
+    let entry = at-look .before .before .before .before .before .before .before .before .before .before .before .before .before in
+    (entry .pre .0 .rows, (rw (at-row .row .given .1) at (at-look .look .ensures)) .0)
 
 same-length : tie.Need-same-length
 same-length c = search needs
@@ -32,19 +41,47 @@ same-length-2 : tie.Need-same-length-2
 same-length-2 c = search needs
 
 returns-2 : tie.Need-returns-2
-returns-2 c = skipped-meets ((c .before .before .before .before .before .before .before .before .before .before .before .before .before .before .before .before .before .before .before .args) .plan) _ _ _ _ ((c .before .before .before .before .before .before .before .before .before .before .before .before .before .before .before .before .before .before .before .args) .sizes) _ ((c .before .before .before .before .before .before .before .before .before .before .before .before .before .before .before .before .before .before .before .pre) .0) ((c .before .before .before .before .before .before .before .before .before .before .before .before .pop) .ensures) _ ((rw ((c .before .before .before .before .i) .given .1) at ((c .before .before .before .before .before .before .look) .ensures)) .2) (sym ((c .before .is-closed) .ensures) ∙ (c .if2) .taken)
+returns-2 c =
+    let at-is-closed = c .before in
+    let at-row = at-is-closed .before .before .before in
+    let at-look = at-row .before .before in
+    let at-pop = at-look .before .before .before .before .before .before in
+    let entry = at-pop .before .before .before .before .before .before .before in
+    let args = entry .args in
+    skipped-meets (args .plan) _ _ _ _ (args .sizes) _ (entry .pre .0) (at-pop .pop .ensures) _ ((rw (at-row .row .given .1) at (at-look .look .ensures)) .2) (sym (at-is-closed .is-closed .ensures) ∙ c .if2 .taken)
 
 g-at-requires : tie.Need-g-at-requires
-g-at-requires c κs = ((c .before .before .before .before .before .before .before .before .before .before .before .before .before .before .before .before .before .before .before .before .pre) .0 .rows, (rw ((c .before .before .before .before .before .i) .given .1) at ((c .before .before .before .before .before .before .before .look) .ensures)) .0)
+g-at-requires c κs =
+    let at-row = c .before .before .before .before .before in
+    let at-look = at-row .before .before in
+    let entry = at-look .before .before .before .before .before .before .before .before .before .before .before .before .before in
+    (entry .pre .0 .rows, (rw (at-row .row .given .1) at (at-look .look .ensures)) .0)
 
 close-at-requires : tie.Need-close-at-requires
-close-at-requires c κs = ((c .before .before .before .before .before .before .before .before .before .before .before .before .before .before .before .before .before .before .before .before .before .before .pre) .0 .rows, (rw ((c .before .before .before .before .before .before .before .i) .given .1) at ((c .before .before .before .before .before .before .before .before .before .look) .ensures)) .0)
+close-at-requires c κs =
+    let at-row = c .before .before .before .before .before .before .before in
+    let at-look = at-row .before .before in
+    let entry = at-look .before .before .before .before .before .before .before .before .before .before .before .before .before in
+    (entry .pre .0 .rows, (rw (at-row .row .given .1) at (at-look .look .ensures)) .0)
 
 add-t33 : tie.Need-add-t33
-add-t33 c = omega (arith, count-small ((c .before .before .before .before .before .before .before .before .before .before .before .before .before .before .before .before .before .before .before .before .before .before .before .before .before .before .pre) .0))
+add-t33 c =
+    let entry = c .before .before .before .before .before .before .before .before .before .before .before .before .before .before .before .before .before .before .before .before .before .before .before .before .before .before in
+    omega (arith, count-small (entry .pre .0))
 
 enter-requires : tie.Need-enter-requires
-enter-requires c κs = (closed-good ((c .before .before .before .before .before .before .before .before .before .before .before .before .before .before .before .before .before .before .before .before .before .before .before .before .before .before .before .before .args) .plan) (problemOf ((c .before .before .before .before .before .before .before .before .before .before .before .before .before .before .before .before .before .before .before .before .before .before .before .before .before .before .before .before .args) .plan) ((c .before .before .before .before .before .before .before .before .before .before .before .before .before .before .before .before .before .before .before .before .before .before .before .before .before .before .before .before .args) .flags .now) ((c .before .before .before .before .before .before .before .before .before .before .before .before .before .before .before .before .before .before .before .before .before .before .before .before .before .before .before .before .args) .count)) _ _ _ ((c .before .before .before .before .before .before .before .before .before .before .before .before .before .before .before .before .before .before .before .before .before .before .before .before .before .before .before .before .args) .sizes) _ ((c .before .before .before .before .before .before .before .before .before .before .before .before .before .before .before .before .before .before .before .before .before .before .before .before .before .before .before .before .pre) .0) ((c .before .before .before .before .before .before .before .before .before .before .before .before .before .before .before .before .before .before .before .before .before .pop) .ensures) _ ((rw ((c .before .before .before .before .before .before .before .before .before .before .before .before .before .i) .given .1) at ((c .before .before .before .before .before .before .before .before .before .before .before .before .before .before .before .look) .ensures)) .2) (sym ((c .before .before .before .before .before .before .before .before .before .before .is-closed) .ensures) ∙ (c .before .before .before .before .before .before .before .before .before .if2) .left) ((rw ((c .before .before .before .before .before .before .before .before .before .before .before .before .before .i) .given .1) at ((c .before .before .before .before .before .before .before .before .before .before .before .before .before .before .before .look) .ensures)) .0) ((rw ((c .before .before .before .before .before .before .before .before .before .before .before .before .before .i) .given .1) at ((c .before .before .before .before .before .before .before .before .before .before .before .before .before .before .before .look) .ensures)) .1) _ ((c .before .before .before .before .before .close-at) .ensures), ((c .before .before .before .before .before .before .before .before .before .before .before .before .before .before .before .before .before .before .before .before .before .before .before .before .before .before .before .before .pre) .1, (row-cost ((c .before .before .before .before .before .before .before .before .before .before .before .before .before .before .before .before .before .before .before .before .before .before .before .before .before .before .before .before .pre) .0) ((c .before .before .before .before .before .before .before .before .before .before .before .before .before .i) .given .0 .0) _ ((rw ((c .before .before .before .before .before .before .before .before .before .before .before .before .before .i) .given .1) at ((c .before .before .before .before .before .before .before .before .before .before .before .before .before .before .before .look) .ensures)) .0) ((c .before .before .before .before .before .before .before .g-at) .ensures), (rw ((c .before .before .before .before .before .before .before .before .before .before .before .before .before .i) .given .1) at ((c .before .before .before .before .before .before .before .before .before .before .before .before .before .before .before .look) .ensures)) .0)))
+enter-requires c κs =
+    let at-close-at = c .before .before .before .before .before in
+    let at-g-at = at-close-at .before .before in
+    let at-if2 = at-g-at .before .before in
+    let at-is-closed = at-if2 .before in
+    let at-row = at-is-closed .before .before .before in
+    let at-look = at-row .before .before in
+    let at-pop = at-look .before .before .before .before .before .before in
+    let entry = at-pop .before .before .before .before .before .before .before in
+    let args = entry .args in
+    let looked = rw (at-row .row .given .1) at (at-look .look .ensures) in
+    (closed-good (args .plan) (problemOf (args .plan) (args .flags .now) (args .count)) _ _ _ (args .sizes) _ (entry .pre .0) (at-pop .pop .ensures) _ (looked .2) (sym (at-is-closed .is-closed .ensures) ∙ at-if2 .if2 .left) (looked .0) (looked .1) _ (at-close-at .close-at .ensures), (entry .pre .1, (row-cost (entry .pre .0) (at-row .row .given .0 .0) _ (looked .0) (at-g-at .g-at .ensures), looked .0)))
 
 enum-told : tie.Need-enum-told
 enum-told c = search needs
@@ -53,10 +90,25 @@ same-length-3 : tie.Need-same-length-3
 same-length-3 c = search needs
 
 same-length-4 : tie.Need-same-length-4
-same-length-4 c = (c .before .before .before .before .enter) .ensures .heap-length ∙ (c .before .before .before .before .before .before .before .before .before .before .before .before .before .before .before .before .before .before .before .before .before .before .before .before .before .before .pop) .ensures .long
+same-length-4 c =
+    let at-enter = c .before .before .before .before in
+    let at-pop = at-enter .before .before .before .before .before .before .before .before .before .before .before .before .before .before .before .before .before .before .before .before .before .before in
+    at-enter .enter .ensures .heap-length ∙ at-pop .pop .ensures .long
 
 returns-3 : tie.Need-returns-3
-returns-3 c = entered-meets ((c .before .before .before .before .before .before .before .before .before .before .before .before .before .before .before .before .before .before .before .before .before .before .before .before .before .before .before .before .before .before .before .before .before .args) .plan) _ _ _ _ ((c .before .before .before .before .before .before .before .before .before .before .before .before .before .before .before .before .before .before .before .before .before .before .before .before .before .before .before .before .before .before .before .before .before .args) .sizes) _ ((c .before .before .before .before .before .before .before .before .before .before .before .before .before .before .before .before .before .before .before .before .before .before .before .before .before .before .before .before .before .before .before .before .before .pre) .0) ((c .before .before .before .before .before .before .before .before .before .before .before .before .before .before .before .before .before .before .before .before .before .before .before .before .before .before .pop) .ensures) _ ((rw ((c .before .before .before .before .before .before .before .before .before .before .before .before .before .before .before .before .before .before .i) .given .1) at ((c .before .before .before .before .before .before .before .before .before .before .before .before .before .before .before .before .before .before .before .before .look) .ensures)) .2) (sym ((c .before .before .before .before .before .before .before .before .before .before .before .before .before .before .before .is-closed) .ensures) ∙ (c .before .before .before .before .before .before .before .before .before .before .before .before .before .before .if2) .left) ((rw ((c .before .before .before .before .before .before .before .before .before .before .before .before .before .before .before .before .before .before .i) .given .1) at ((c .before .before .before .before .before .before .before .before .before .before .before .before .before .before .before .before .before .before .before .before .look) .ensures)) .0) ((rw ((c .before .before .before .before .before .before .before .before .before .before .before .before .before .before .before .before .before .before .i) .given .1) at ((c .before .before .before .before .before .before .before .before .before .before .before .before .before .before .before .before .before .before .before .before .look) .ensures)) .1) _ ((c .before .before .before .before .before .before .before .before .before .before .close-at) .ensures) _ ((c .before .before .before .before .before .before .before .before .before .before .before .before .g-at) .ensures) _ _ _ ((c .before .before .before .before .enter) .ensures)
+returns-3 c =
+    let at-enter = c .before .before .before .before in
+    let at-close-at = at-enter .before .before .before .before .before .before in
+    let at-g-at = at-close-at .before .before in
+    let at-if2 = at-g-at .before .before in
+    let at-is-closed = at-if2 .before in
+    let at-row = at-is-closed .before .before .before in
+    let at-look = at-row .before .before in
+    let at-pop = at-look .before .before .before .before .before .before in
+    let entry = at-pop .before .before .before .before .before .before .before in
+    let args = entry .args in
+    let looked = rw (at-row .row .given .1) at (at-look .look .ensures) in
+    entered-meets (args .plan) _ _ _ _ (args .sizes) _ (entry .pre .0) (at-pop .pop .ensures) _ (looked .2) (sym (at-is-closed .is-closed .ensures) ∙ at-if2 .if2 .left) (looked .0) (looked .1) _ (at-close-at .close-at .ensures) _ (at-g-at .g-at .ensures) _ _ _ (at-enter .enter .ensures)
 
 same-length-5 : tie.Need-same-length-5
 same-length-5 c = search needs
@@ -65,7 +117,12 @@ same-length-6 : tie.Need-same-length-6
 same-length-6 c = search needs
 
 returns-4 : tie.Need-returns-4
-returns-4 c = absurd (never-nowhere ((c .before .before .before .before .before .before .before .before .before .before .before .before .before .before .before .args) .plan) (problemOf ((c .before .before .before .before .before .before .before .before .before .before .before .before .before .before .before .args) .plan) ((c .before .before .before .before .before .before .before .before .before .before .before .before .before .before .before .args) .flags .now) ((c .before .before .before .before .before .before .before .before .before .before .before .before .before .before .before .args) .count)) _ _ _ ((c .before .before .before .before .before .before .before .before .before .before .before .before .before .before .before .args) .sizes) _ ((c .before .before .before .before .before .before .before .before .before .before .before .before .before .before .before .pre) .0) ((c .before .before .before .before .before .before .before .before .pop) .ensures) ((rw ((c .enum-told) .given .1) at ((c .before .before .look) .ensures)) .1))
+returns-4 c =
+    let at-look = c .before .before in
+    let at-pop = at-look .before .before .before .before .before .before in
+    let entry = at-pop .before .before .before .before .before .before .before in
+    let args = entry .args in
+    absurd (never-nowhere (args .plan) (problemOf (args .plan) (args .flags .now) (args .count)) _ _ _ (args .sizes) _ (entry .pre .0) (at-pop .pop .ensures) ((rw (c .enum-told .given .1) at (at-look .look .ensures)) .1))
 
 pub advance-spec : {M : Type 1} → statement M
 advance-spec =
@@ -75,7 +132,7 @@ advance-spec =
     pop-requires
     sub-left
     look-requires
-    enum-known-i
+    enum-known-row
     is-closed-requires
     same-length
     same-length-2

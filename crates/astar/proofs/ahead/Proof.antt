@@ -1,3 +1,4 @@
+-- The distance is a cost, or it is refused.
 use Rattle.astar.specs.CostLaws.{ahead-is, ahead-refused}
 use borrow.Author.Needs.{needs}
 use Rattle.astar.proofs.ahead.Statement.{statement}
@@ -16,7 +17,10 @@ enum-known-r : tie.Need-enum-known-r
 enum-known-r c = search needs
 
 returns : tie.Need-returns
-returns c = ahead-is _ _ _ _ (rw ((c .before .before .d) .given .1) at ((c .before .before .before .before .distance-to) .ensures)) ((c .bits) .ensures)
+returns c =
+    let at-d = c .before .before in
+    let at-distance-to = at-d .before .before in
+    ahead-is _ _ _ _ (rw (at-d .d .given .1) at (at-distance-to .distance-to .ensures)) (c .bits .ensures)
 
 returns-2 : tie.Need-returns-2
 returns-2 c = ahead-refused _ _ _ (rw ((c .before .r) .given .1) at ((c .before .before .before .distance-to) .ensures))

@@ -1,3 +1,4 @@
+-- A step costs one of two numbers, and both are costs.
 use Rattle.astar.specs.CostLaws.{step-is}
 use borrow.Author.Needs.{needs}
 use Rattle.astar.proofs.cost.Statement.{statement}

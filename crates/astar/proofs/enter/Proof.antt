@@ -1,3 +1,4 @@
+-- The limit, the goal, neighbours that are refused, or all fourteen.
 use mathlib.Core.Path.{sym, _∙_}
 use native.Mathlib.Omega.{arith}
 use Rattle.known.specs.Laws.{cell-words}
@@ -7,7 +8,10 @@ use Rattle.astar.proofs.enter.Statement.{statement}
 use Rattle.astar.proofs.enter.Tie as tie
 
 returns : tie.Need-returns
-returns c = spent-meets ((c .before .before .before .before .before .before .args) .plan) _ _ _ _ ((c .before .before .before .before .before .before .args) .sizes) ((c .before .before .before .before .before .before .args) .at) ((c .before .before .before .before .before .before .args) .g) ((c .if1) .taken)
+returns c =
+    let entry = c .before .before .before .before .before .before in
+    let args = entry .args in
+    spent-meets (args .plan) _ _ _ _ (args .sizes) (args .at) (args .g) (c .if1 .taken)
 
 cell-at-requires : tie.Need-cell-at-requires
 cell-at-requires c κs = search needs
@@ -19,7 +23,14 @@ same-length : tie.Need-same-length
 same-length c = search needs
 
 returns-2 : tie.Need-returns-2
-returns-2 c = arrived-meets ((c .before .before .before .before .before .before .before .before .before .before .args) .plan) _ _ _ _ ((c .before .before .before .before .before .before .before .before .before .before .args) .sizes) ((c .before .before .before .before .before .before .before .before .before .before .args) .at) ((c .before .before .before .before .before .before .before .before .before .before .args) .g) ((c .before .before .before .before .if1) .left) _ ((c .before .before .cell-at) .ensures) (λ k. omega (arith, (c .before .before .before .before .before .before .before .before .before .slice-known) .given k)) ((c .before .before .before .before .before .before .before .before .before .before .pre) .1 .1 .1) ((c .before .before .before .before .before .before .before .before .before .before .pre) .0) (sym ((c .before .same) .ensures) ∙ (c .if2) .taken)
+returns-2 c =
+    let at-same = c .before in
+    let at-cell-at = at-same .before in
+    let at-if1 = at-cell-at .before .before in
+    let at-slice-known = at-if1 .before .before .before .before .before in
+    let entry = at-slice-known .before in
+    let args = entry .args in
+    arrived-meets (args .plan) _ _ _ _ (args .sizes) (args .at) (args .g) (at-if1 .if1 .left) _ (at-cell-at .cell-at .ensures) (λ k. omega (arith, at-slice-known .slice-known .given k)) (entry .pre .1 .1 .1) (entry .pre .0) (sym (at-same .same .ensures) ∙ c .if2 .taken)
 
 get-neighbors-requires : tie.Need-get-neighbors-requires
 get-neighbors-requires c κs = search needs
@@ -37,7 +48,17 @@ same-length-2 : tie.Need-same-length-2
 same-length-2 c = search needs
 
 returns-3 : tie.Need-returns-3
-returns-3 c = alone-meets ((c .before .before .before .before .before .before .before .before .before .before .before .before .before .before .args) .plan) _ _ _ _ ((c .before .before .before .before .before .before .before .before .before .before .before .before .before .before .args) .sizes) ((c .before .before .before .before .before .before .before .before .before .before .before .before .before .before .args) .at) ((c .before .before .before .before .before .before .before .before .before .before .before .before .before .before .args) .g) ((c .before .before .before .before .before .before .before .before .if1) .left) _ ((c .before .before .before .before .before .before .cell-at) .ensures) (cell-words _ ((c .before .before .before .before .before .before .before .before .before .before .before .before .before .before .args) .plan .known) ((c .before .before .before .before .before .before .before .before .before .before .before .before .before .before .args) .at) (λ k. omega (arith, (c .before .before .before .before .before .before .before .before .before .before .before .before .before .slice-known) .given k))) (sym ((c .before .before .before .before .before .same) .ensures) ∙ (c .before .before .before .before .if2) .left) _ ((c .before .before .before .get-neighbors) .ensures) _ ((c .before .outcome) .given .1)
+returns-3 c =
+    let at-outcome = c .before in
+    let at-get-neighbors = at-outcome .before .before in
+    let at-if2 = at-get-neighbors .before in
+    let at-same = at-if2 .before in
+    let at-cell-at = at-same .before in
+    let at-if1 = at-cell-at .before .before in
+    let at-slice-known = at-if1 .before .before .before .before .before in
+    let entry = at-slice-known .before in
+    let args = entry .args in
+    alone-meets (args .plan) _ _ _ _ (args .sizes) (args .at) (args .g) (at-if1 .if1 .left) _ (at-cell-at .cell-at .ensures) (cell-words _ (args .plan .known) (args .at) (λ k. omega (arith, at-slice-known .slice-known .given k))) (sym (at-same .same .ensures) ∙ at-if2 .if2 .left) _ (at-get-neighbors .get-neighbors .ensures) _ (at-outcome .outcome .given .1)
 
 same-length-3 : tie.Need-same-length-3
 same-length-3 c = search needs
@@ -46,7 +67,18 @@ same-length-4 : tie.Need-same-length-4
 same-length-4 c = search needs
 
 returns-4 : tie.Need-returns-4
-returns-4 c = around-meets ((c .before .before .before .before .before .before .before .before .before .before .before .before .before .before .before .before .before .before .before .before .before .args) .plan) _ _ _ _ ((c .before .before .before .before .before .before .before .before .before .before .before .before .before .before .before .before .before .before .before .before .before .args) .sizes) ((c .before .before .before .before .before .before .before .before .before .before .before .before .before .before .before .before .before .before .before .before .before .args) .at) ((c .before .before .before .before .before .before .before .before .before .before .before .before .before .before .before .before .before .before .before .before .before .args) .g) ((c .before .before .before .before .before .before .before .before .before .before .before .before .before .before .before .if1) .left) _ ((c .before .before .before .before .before .before .before .before .before .before .before .before .before .cell-at) .ensures) (cell-words _ ((c .before .before .before .before .before .before .before .before .before .before .before .before .before .before .before .before .before .before .before .before .before .args) .plan .known) ((c .before .before .before .before .before .before .before .before .before .before .before .before .before .before .before .before .before .before .before .before .before .args) .at) (λ k. omega (arith, (c .before .before .before .before .before .before .before .before .before .before .before .before .before .before .before .before .before .before .before .before .slice-known) .given k))) (sym ((c .before .before .before .before .before .before .before .before .before .before .before .before .same) .ensures) ∙ (c .before .before .before .before .before .before .before .before .before .before .before .if2) .left) _ ((c .before .before .before .before .before .before .before .before .before .before .get-neighbors) .ensures) ((c .before .before .before .before .before .before .before .before .enum-told) .given .1) _ _ _ ((c .before .before .before .before .relax-all) .ensures)
+returns-4 c =
+    let at-relax-all = c .before .before .before .before in
+    let at-enum-told = at-relax-all .before .before .before .before in
+    let at-get-neighbors = at-enum-told .before .before in
+    let at-if2 = at-get-neighbors .before in
+    let at-same = at-if2 .before in
+    let at-cell-at = at-same .before in
+    let at-if1 = at-cell-at .before .before in
+    let at-slice-known = at-if1 .before .before .before .before .before in
+    let entry = at-slice-known .before in
+    let args = entry .args in
+    around-meets (args .plan) _ _ _ _ (args .sizes) (args .at) (args .g) (at-if1 .if1 .left) _ (at-cell-at .cell-at .ensures) (cell-words _ (args .plan .known) (args .at) (λ k. omega (arith, at-slice-known .slice-known .given k))) (sym (at-same .same .ensures) ∙ at-if2 .if2 .left) _ (at-get-neighbors .get-neighbors .ensures) (at-enum-told .enum-told .given .1) _ _ _ (at-relax-all .relax-all .ensures)
 
 pub enter-spec : {M : Type 1} → statement M
 enter-spec =

@@ -1,3 +1,4 @@
+-- Costs are no NaN, so they compare as their values do.
 use Rattle.astar.specs.CostLaws.{less-is}
 use borrow.Author.Needs.{needs}
 use Rattle.astar.proofs.less.Statement.{statement}

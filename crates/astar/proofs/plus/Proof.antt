@@ -1,3 +1,4 @@
+-- The sum of two costs is a cost.
 use Rattle.astar.specs.CostLaws.{plus-is}
 use borrow.Author.Needs.{needs}
 use Rattle.astar.proofs.plus.Statement.{statement}

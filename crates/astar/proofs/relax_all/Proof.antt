@@ -25,7 +25,10 @@ array-copy-out-relax : tie.Need-array-copy-out-relax Inv-loop μ-loop
 array-copy-out-relax c = search needs
 
 relax-requires : tie.Need-relax-requires Inv-loop μ-loop
-relax-requires c κs = ((c .before .before .before .before .loop) .inv .good, ((c .before .before .before .before .before .before .before .before .pre) .1 .0, ((c .before .before .before .before .before .before .before .before .pre) .1 .1 .0, (c .before .before .before .before .loop) .inv .below)))
+relax-requires c κs =
+    let at-loop = c .before .before .before .before in
+    let entry = at-loop .before .before .before .before in
+    (at-loop .loop .inv .good, (entry .pre .1 .0, (entry .pre .1 .1 .0, at-loop .loop .inv .below)))
 
 enum-known-z : tie.Need-enum-known-z Inv-loop μ-loop
 enum-known-z c = search needs
@@ -34,25 +37,47 @@ enum-known-r : tie.Need-enum-known-r Inv-loop μ-loop
 enum-known-r c = search needs
 
 same-length : tie.Need-same-length Inv-loop μ-loop
-same-length c = (c .before .before .before .before .before .before .before .relax) .ensures .workspace-length ∙ (c .before .before .before .before .before .before .before .before .before .before .before .before .loop) .inv .workspace-length
+same-length c =
+    let at-relax = c .before .before .before .before .before .before .before in
+    let at-loop = at-relax .before .before .before .before .before in
+    at-relax .relax .ensures .workspace-length ∙ at-loop .loop .inv .workspace-length
 
 same-length-2 : tie.Need-same-length-2 Inv-loop μ-loop
-same-length-2 c = (c .before .before .before .before .before .before .before .relax) .ensures .heap-length ∙ (c .before .before .before .before .before .before .before .before .before .before .before .before .loop) .inv .heap-length
+same-length-2 c =
+    let at-relax = c .before .before .before .before .before .before .before in
+    let at-loop = at-relax .before .before .before .before .before in
+    at-relax .relax .ensures .heap-length ∙ at-loop .loop .inv .heap-length
 
 returns : tie.Need-returns Inv-loop μ-loop
-returns c = around-out ((c .before .before .before .before .before .before .before .before .before .before .before .before .loop) .inv) (record { high = 0; low = 0 }) ((c .before .before .before .before .before .before .before .before .before .before .before .loop-test) .taken) _ _ _ (rw ((c .before .r) .given .1) at ((c .before .before .before .before .before .before .before .relax) .ensures)) _ refl
+returns c =
+    let at-r = c .before in
+    let at-relax = at-r .before .before .before .before .before .before in
+    let at-loop-test = at-relax .before .before .before .before in
+    let at-loop = at-loop-test .before in
+    around-out (at-loop .loop .inv) (record { high = 0; low = 0 }) (at-loop-test .loop-test .taken) _ _ _ (rw (at-r .r .given .1) at (at-relax .relax .ensures)) _ refl
 
 enum-known-z-2 : tie.Need-enum-known-z-2 Inv-loop μ-loop
 enum-known-z-2 c = search needs
 
 same-length-3 : tie.Need-same-length-3 Inv-loop μ-loop
-same-length-3 c = (c .before .before .before .before .before .before .before .relax) .ensures .workspace-length ∙ (c .before .before .before .before .before .before .before .before .before .before .before .before .loop) .inv .workspace-length
+same-length-3 c =
+    let at-relax = c .before .before .before .before .before .before .before in
+    let at-loop = at-relax .before .before .before .before .before in
+    at-relax .relax .ensures .workspace-length ∙ at-loop .loop .inv .workspace-length
 
 same-length-4 : tie.Need-same-length-4 Inv-loop μ-loop
-same-length-4 c = (c .before .before .before .before .before .before .before .relax) .ensures .heap-length ∙ (c .before .before .before .before .before .before .before .before .before .before .before .before .loop) .inv .heap-length
+same-length-4 c =
+    let at-relax = c .before .before .before .before .before .before .before in
+    let at-loop = at-relax .before .before .before .before .before in
+    at-relax .relax .ensures .heap-length ∙ at-loop .loop .inv .heap-length
 
 returns-2 : tie.Need-returns-2 Inv-loop μ-loop
-returns-2 c = around-out ((c .before .before .before .before .before .before .before .before .before .before .before .before .loop) .inv) (record { high = 0; low = 0 }) ((c .before .before .before .before .before .before .before .before .before .before .before .loop-test) .taken) _ _ _ (rw ((c .before .z2) .given .1) at ((c .before .before .before .before .before .before .before .relax) .ensures)) _ refl
+returns-2 c =
+    let at-z2 = c .before in
+    let at-relax = at-z2 .before .before .before .before .before .before in
+    let at-loop-test = at-relax .before .before .before .before in
+    let at-loop = at-loop-test .before in
+    around-out (at-loop .loop .inv) (record { high = 0; low = 0 }) (at-loop-test .loop-test .taken) _ _ _ (rw (at-z2 .z2 .given .1) at (at-relax .relax .ensures)) _ refl
 
 add-i : tie.Need-add-i Inv-loop μ-loop
 add-i c = search needs
@@ -61,7 +86,12 @@ loop-less : tie.Need-loop-less Inv-loop μ-loop
 loop-less c = search needs
 
 loop-again : tie.Need-loop-again Inv-loop μ-loop
-loop-again c = around-next ((c .before .before .before .before .before .before .before .before .before .before .before .before .loop) .inv) (record { high = 0; low = 0 }) ((c .before .before .before .before .before .before .before .before .before .before .before .loop-test) .taken) _ _ _ (rw ((c .before .z) .given .1) at ((c .before .before .before .before .before .before .before .relax) .ensures))
+loop-again c =
+    let at-z = c .before in
+    let at-relax = at-z .before .before .before .before .before .before in
+    let at-loop-test = at-relax .before .before .before .before in
+    let at-loop = at-loop-test .before in
+    around-next (at-loop .loop .inv) (record { high = 0; low = 0 }) (at-loop-test .loop-test .taken) _ _ _ (rw (at-z .z .given .1) at (at-relax .relax .ensures))
 
 same-length-5 : tie.Need-same-length-5 Inv-loop μ-loop
 same-length-5 c = (c .before .loop) .inv .workspace-length

@@ -1,3 +1,4 @@
+-- An estimate that is refused, a heap that is full, or the row and the entry of a shorter way.
 use mathlib.Core.Path.{ap, _∙_}
 use native.Mathlib.Omega.{arith}
 use Rattle.refusal.specs.declared.Cell.{Cell}
@@ -24,16 +25,29 @@ same-length : tie.Need-same-length
 same-length c = search needs
 
 returns : tie.Need-returns
-returns c = full-meets ((c .before .before .before .before .before .before .before .before .before .before .before .before .args) .plan) _ _ ((c .before .before .before .before .before .before .before .before .before .before .before .before .args) .sizes) _ _ _ _ (waiting-room ((c .before .before .before .before .before .before .before .before .before .before .before .before .args) .plan) _ _) _ _ (rw ((c .before .before .before .before .h) .given .1) at ((c .before .before .before .before .before .before .ahead) .ensures .0) ∙ ap (λ (d : Cell). distanceBits (distanceCells d ((c .before .before .before .before .before .before .before .before .before .before .before .before .args) .plan .goal))) ((c .before .before .before .before .before .before .before .cell-at) .ensures)) ((c .if1) .taken)
+returns c =
+    let at-h = c .before .before .before .before in
+    let at-ahead = at-h .before .before in
+    let at-cell-at = at-ahead .before in
+    let entry = at-cell-at .before .before .before .before .before in
+    let args = entry .args in
+    full-meets (args .plan) _ _ (args .sizes) _ _ _ _ (waiting-room (args .plan) _ _) _ _ (rw (at-h .h .given .1) at (at-ahead .ahead .ensures .0) ∙ ap (λ (d : Cell). distanceBits (distanceCells d (args .plan .goal))) (at-cell-at .cell-at .ensures)) (c .if1 .taken)
 
 lower-requires : tie.Need-lower-requires
 lower-requires c κs = search needs
 
 plus-requires : tie.Need-plus-requires
-plus-requires c κs = ((c .before .before .before .before .before .before .before .before .before .before .before .before .before .before .before .before .pre) .1 .0, rw ((c .before .before .before .before .before .before .before .before .h) .given .1) at ((c .before .before .before .before .before .before .before .before .before .before .ahead) .ensures .1))
+plus-requires c κs =
+    let at-h = c .before .before .before .before .before .before .before .before in
+    let at-ahead = at-h .before .before in
+    let entry = at-ahead .before .before .before .before .before .before in
+    (entry .pre .1 .0, rw (at-h .h .given .1) at (at-ahead .ahead .ensures .1))
 
 push-requires : tie.Need-push-requires
-push-requires c κs = ((c .before .before .before .before .before .before .before .before .before .before .before .before .before .before .before .before .before .before .pre) .0 .heap, omega (arith, (c .before .before .before .before .before .before .before .before .before .before .before .before .before .before .before .before .before .before .pre) .0 .size, (c .before .before .before .before .before .before .if1) .left))
+push-requires c κs =
+    let at-if1 = c .before .before .before .before .before .before in
+    let entry = at-if1 .before .before .before .before .before .before .before .before .before .before .before .before in
+    (entry .pre .0 .heap, omega (arith, entry .pre .0 .size, at-if1 .if1 .left))
 
 add-t27 : tie.Need-add-t27
 add-t27 c = search needs
@@ -42,7 +56,13 @@ same-length-2 : tie.Need-same-length-2
 same-length-2 c = search needs
 
 returns-2 : tie.Need-returns-2
-returns-2 c = refused-meets ((c .before .before .before .before .before .before .before .before .before .args) .plan) _ _ ((c .before .before .before .before .before .before .before .before .before .args) .sizes) _ _ _ _ (waiting-room ((c .before .before .before .before .before .before .before .before .before .args) .plan) _ _) _ _ (rw ((c .before .r) .given .1) at ((c .before .before .before .ahead) .ensures .0) ∙ ap (λ (d : Cell). distanceBits (distanceCells d ((c .before .before .before .before .before .before .before .before .before .args) .plan .goal))) ((c .before .before .before .before .cell-at) .ensures))
+returns-2 c =
+    let at-r = c .before in
+    let at-ahead = at-r .before .before in
+    let at-cell-at = at-ahead .before in
+    let entry = at-cell-at .before .before .before .before .before in
+    let args = entry .args in
+    refused-meets (args .plan) _ _ (args .sizes) _ _ _ _ (waiting-room (args .plan) _ _) _ _ (rw (at-r .r .given .1) at (at-ahead .ahead .ensures .0) ∙ ap (λ (d : Cell). distanceBits (distanceCells d (args .plan .goal))) (at-cell-at .cell-at .ensures))
 
 same-length-3 : tie.Need-same-length-3
 same-length-3 c = search needs
@@ -51,7 +71,18 @@ same-length-4 : tie.Need-same-length-4
 same-length-4 c = search needs
 
 returns-3 : tie.Need-returns-3
-returns-3 c = renew-meets ((c .before .before .before .before .before .before .before .before .before .before .before .before .before .before .before .before .before .before .before .before .before .before .args) .plan) _ _ _ _ ((c .before .before .before .before .before .before .before .before .before .before .before .before .before .before .before .before .before .before .before .before .before .before .args) .sizes) ((c .before .before .before .before .before .before .before .before .before .before .before .before .before .before .before .before .before .before .before .before .before .before .args) .at) _ ((c .before .before .before .before .before .before .before .before .before .before .before .before .before .before .before .before .before .before .before .before .before .before .args) .g) _ _ _ (waiting-room ((c .before .before .before .before .before .before .before .before .before .before .before .before .before .before .before .before .before .before .before .before .before .before .args) .plan) _ _) (λ k. omega (arith, (c .before .before .before .before .before .before .before .before .before .before .before .before .before .before .before .before .before .before .before .before .before .slice-known) .given k)) ((c .before .before .before .before .before .before .before .before .before .before .before .before .before .before .before .before .before .before .before .before .before .before .pre) .0) ((c .before .before .before .before .before .plus) .ensures .1) ((c .before .before .before .before .before .before .before .before .before .before .before .before .before .before .before .before .before .before .before .before .before .before .pre) .1 .0) ((c .before .before .before .before .before .plus) .ensures .0) ((c .before .before .before .before .before .before .before .before .before .before .if1) .left) (rw ((c .before .before .before .before .before .before .before .before .before .before .before .before .before .before .h) .given .1) at ((c .before .before .before .before .before .before .before .before .before .before .before .before .before .before .before .before .ahead) .ensures .0)) ((c .before .before .before .push) .ensures) ((c .before .before .before .before .before .before .before .before .before .before .before .before .before .before .before .before .before .before .before .before .before .before .args) .i) ((c .before .before .before .before .before .before .before .before .before .before .before .before .before .before .before .before .before .before .before .before .before .before .pre) .1 .1 .1 .0) ((c .before .before .before .before .before .before .before .before .before .before .before .before .before .before .before .before .before .before .before .before .before .before .pre) .1 .1 .1 .1) ((c .before .before .before .before .before .before .before .before .before .before .before .before .before .before .before .before .before .cell-at) .ensures) ((c .before .before .before .before .before .before .before .before .lower) .ensures)
+returns-3 c =
+    let at-push = c .before .before .before in
+    let at-plus = at-push .before .before in
+    let at-lower = at-plus .before .before .before in
+    let at-if1 = at-lower .before .before in
+    let at-h = at-if1 .before .before .before .before in
+    let at-ahead = at-h .before .before in
+    let at-cell-at = at-ahead .before in
+    let at-slice-known = at-cell-at .before .before .before .before in
+    let entry = at-slice-known .before in
+    let args = entry .args in
+    renew-meets (args .plan) _ _ _ _ (args .sizes) (args .at) _ (args .g) _ _ _ (waiting-room (args .plan) _ _) (λ k. omega (arith, at-slice-known .slice-known .given k)) (entry .pre .0) (at-plus .plus .ensures .1) (entry .pre .1 .0) (at-plus .plus .ensures .0) (at-if1 .if1 .left) (rw (at-h .h .given .1) at (at-ahead .ahead .ensures .0)) (at-push .push .ensures) (args .i) (entry .pre .1 .1 .1 .0) (entry .pre .1 .1 .1 .1) (at-cell-at .cell-at .ensures) (at-lower .lower .ensures)
 
 pub renew-spec : {M : Type 1} → statement M
 renew-spec =

@@ -19,25 +19,45 @@ loop-holds : tie.Need-loop-holds Inv-loop μ-loop
 loop-holds c = run-start ((c .before .before .before .pre) .0)
 
 advance-requires : tie.Need-advance-requires Inv-loop μ-loop
-advance-requires c κs = ((c .before .before .loop) .inv .good, (c .before .before .before .before .before .before .pre) .1)
+advance-requires c κs =
+    let at-loop = c .before .before in
+    let entry = at-loop .before .before .before .before in
+    (at-loop .loop .inv .good, entry .pre .1)
 
 enum-known-r : tie.Need-enum-known-r Inv-loop μ-loop
 enum-known-r c = search needs
 
 same-length : tie.Need-same-length Inv-loop μ-loop
-same-length c = (c .before .before .before .before .before .advance) .ensures .workspace-length ∙ (c .before .before .before .before .before .before .before .before .loop) .inv .workspace-length
+same-length c =
+    let at-advance = c .before .before .before .before .before in
+    let at-loop = at-advance .before .before .before in
+    at-advance .advance .ensures .workspace-length ∙ at-loop .loop .inv .workspace-length
 
 same-length-2 : tie.Need-same-length-2 Inv-loop μ-loop
-same-length-2 c = (c .before .before .before .before .before .advance) .ensures .heap-length ∙ (c .before .before .before .before .before .before .before .before .loop) .inv .heap-length
+same-length-2 c =
+    let at-advance = c .before .before .before .before .before in
+    let at-loop = at-advance .before .before .before in
+    at-advance .advance .ensures .heap-length ∙ at-loop .loop .inv .heap-length
 
 returns : tie.Need-returns Inv-loop μ-loop
-returns c = run-ends ((c .before .before .before .before .before .before .before .before .loop) .inv) _ _ _ (ended ((c .before .before .before .before .before .advance) .result) ((c .match) .keys2)) ((c .before .before .before .before .before .advance) .ensures)
+returns c =
+    let at-advance = c .before .before .before .before .before in
+    let at-loop = at-advance .before .before .before in
+    run-ends (at-loop .loop .inv) _ _ _ (ended (at-advance .advance .result) (c .match .keys2)) (at-advance .advance .ensures)
 
 loop-less : tie.Need-loop-less Inv-loop μ-loop
-loop-less c = run-falls ((c .before .before .before .before .before .before .before .before .before .before .loop) .inv) _ _ _ (rw ((c .before .r) .given .1) at ((c .before .before .before .before .before .before .before .advance) .ensures))
+loop-less c =
+    let at-r = c .before in
+    let at-advance = at-r .before .before .before .before .before .before in
+    let at-loop = at-advance .before .before .before in
+    run-falls (at-loop .loop .inv) _ _ _ (rw (at-r .r .given .1) at (at-advance .advance .ensures))
 
 loop-again : tie.Need-loop-again Inv-loop μ-loop
-loop-again c = run-next ((c .before .before .before .before .before .before .before .before .before .before .loop) .inv) _ _ _ (rw ((c .before .r) .given .1) at ((c .before .before .before .before .before .before .before .advance) .ensures))
+loop-again c =
+    let at-r = c .before in
+    let at-advance = at-r .before .before .before .before .before .before in
+    let at-loop = at-advance .before .before .before in
+    run-next (at-loop .loop .inv) _ _ _ (rw (at-r .r .given .1) at (at-advance .advance .ensures))
 
 pub run-spec : {M : Type 1} → statement M
 run-spec =

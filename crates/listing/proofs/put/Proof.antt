@@ -1,3 +1,4 @@
+-- The bytes before a cell, its own, and those behind it.
 use mathlib.Core.Path.{_≡_, ap, _∙_}
 use mathlib.Core.List.{List, _++_}
 use Prim.Native.Nat.{ℕ, _+_, _*_, _≤_}

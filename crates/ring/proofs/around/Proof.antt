@@ -2,8 +2,7 @@
 use mathlib.Core.Path.{sym, _∙_}
 use borrow.Author.Needs.{needs}
 use borrow.Author.Tests.{not-true, not-false}
-use Rattle.ring.specs.RoomLaws.{rooms-tested}
-use Rattle.ring.proofs.Ringed.{ringed-bad, ringed-walked}
+use Rattle.ring.proofs.Ringed.{rooms-tested, ringed-bad, ringed-walked}
 use Rattle.ring.proofs.around.Statement.{statement}
 use Rattle.ring.proofs.around.Tie as tie
 
@@ -26,8 +25,8 @@ walk-from-requires c κs =
     let args = c .before .before .before .before .before .before .before .before .before .before .args in
     (rooms-tested (args .known) (args .waiting) (args .workspace .now) (sym (c .before .before .before .before .before .has-rooms .ensures) ∙ not-false _ (c .before .before .before .before .if1 .left)), c .before .before .room .ensures)
 
-zero-requires : tie.Need-zero-requires
-zero-requires c κs = search needs
+wipe-requires : tie.Need-wipe-requires
+wipe-requires c κs = search needs
 
 same-length-2 : tie.Need-same-length-2
 same-length-2 c = search needs
@@ -41,7 +40,7 @@ returns-2 c =
     let room = walked .before .before .before in
     let tested = room .before .before in
     let args = c .before .before .before .before .before .before .before .before .before .before .before .before .before .before .before .before .before .before .before .args in
-    ringed-walked (args .every) (args .center .now) (args .k) (args .known) (args .waiting) (args .workspace .now) (args .output .now) (walked .walk-from .last .1 .1 .1 .1 .0) (sym (tested .before .has-rooms .ensures) ∙ not-false _ (tested .if1 .left)) (room .room .ensures) (walked .walk-from .ensures .0) (walked .walk-from .ensures .1) (c .before .before .zero .ensures)
+    ringed-walked (args .every) (args .center .now) (args .k) (args .known) (args .waiting) (args .workspace .now) (args .output .now) (walked .walk-from .last .1 .1 .1 .1 .0) (sym (tested .before .has-rooms .ensures) ∙ not-false _ (tested .if1 .left)) (room .room .ensures) (walked .walk-from .ensures .0) (walked .walk-from .ensures .1) (c .before .before .wipe .ensures)
 
 pub around-spec : {M : Type 1} → statement M
 around-spec =
@@ -52,7 +51,7 @@ around-spec =
     returns
     room-requires
     walk-from-requires
-    zero-requires
+    wipe-requires
     same-length-2
     same-length-3
     returns-2)

@@ -6,8 +6,9 @@ use native.Mathlib.Omega.{arith}
 use lib.Dec.{leb}
 use lib.ListN.{length}
 use borrow.Author.Needs.{needs}
+use Rattle.known.specs.Workspace.{isRoom}
+use Rattle.known.specs.WorkspaceLaws.{room-tested}
 use Rattle.ring.specs.Ring.{hasRooms}
-use Rattle.ring.specs.RoomLaws.{room-tested}
 use Rattle.ring.proofs.has_rooms.Statement.{statement}
 use Rattle.ring.proofs.has_rooms.Tie as tie
 
@@ -45,7 +46,7 @@ unfolding hasRooms
 returns-3 c =
     let args = c .before .before .before .args in
     let known = sym (c .if1 .left) ∙ c .before .is-room .ensures in
-    λ i. known i && ((leb 1 (args .waiting) && leb (args .waiting) 65536) && leb (44 * args .known) (length (args .workspace .now)))
+    λ i. known i && (isRoom (args .waiting) && leb (44 * args .known) (length (args .workspace .now)))
 
 pub has-rooms-spec : {M : Type 1} → statement M
 has-rooms-spec =

@@ -1,7 +1,9 @@
 -- The rule decides whether the layer is asked; then what the search found. Assumes nothing.
+use mathlib.Core.Path.{_∙_}
+use native.Mathlib.Omega.{arith}
 use borrow.Author.Needs.{needs}
 use Rattle.layer.specs.Layer.{rowsOf}
-use Rattle.layer.specs.Laws.{found-within}
+use Rattle.layer.specs.Laws.{flags-word, found-within}
 use Rattle.route.proofs.Shut.{found, missing, not-asked}
 use Rattle.route.proofs.is_shut.Statement.{statement}
 use Rattle.route.proofs.is_shut.Tie as tie
@@ -17,14 +19,23 @@ kept-at-requires c κs =
     let start = c .before .before .before .before .before .before in
     (search needs, found-within 20 (start .args .flags .now) (start .args .c) (start .args .count) _ (start .pre) (c .before .before .before .find .ensures) (c .before .place .given .1))
 
+cast-is-blocked : tie.Need-cast-is-blocked
+cast-is-blocked c =
+    let lent = c .before .before .before .before .before .before in
+    omega (arith, c .kept-at .ensures, flags-word (lent .before .args .flags .now) (c .before .before .place .given .0 .0) (λ i. omega (arith, lent .shared-slice-known .given i)))
+
+is-blocked-requires : tie.Need-is-blocked-requires
+is-blocked-requires c κs = search needs
+
 enum-known-place-2 : tie.Need-enum-known-place-2
 enum-known-place-2 c = search needs
 
 returns : tie.Need-returns
 returns c =
-    let search = c .before .before .before .before in
+    let kept = c .before in
+    let search = kept .before .before .before .before in
     let start = search .before .before .before in
-    found (start .args .flags .now) (start .args .count) (start .args .c) (search .before .if1 .taken) (search .find .ensures) _ (start .pre) (c .before .before .place .given .1) (c .kept-at .ensures)
+    c .is-blocked .ensures ∙ found (start .args .flags .now) (start .args .count) (start .args .c) (search .before .if1 .taken) (search .find .ensures) _ (start .pre) (kept .before .before .place .given .1) (kept .kept-at .ensures)
 
 returns-2 : tie.Need-returns-2
 returns-2 c =
@@ -42,6 +53,8 @@ is-shut-spec =
     find-requires
     enum-known-place
     kept-at-requires
+    cast-is-blocked
+    is-blocked-requires
     enum-known-place-2
     returns
     returns-2

@@ -1,8 +1,7 @@
--- A record that known adds, three stores into it, and what they leave.
+-- A record that known adds, and a row written into it.
 use native.Mathlib.Omega.{arith}
 use borrow.Author.Needs.{needs}
 use Rattle.cell.specs.Laws.{Words}
-use Rattle.rows.proofs.Written.{written-by}
 use Rattle.rows.proofs.Appended.{cell-new, appended}
 use Rattle.rows.proofs.append.Statement.{statement}
 use Rattle.rows.proofs.append.Tie as tie
@@ -10,71 +9,23 @@ use Rattle.rows.proofs.append.Tie as tie
 add-requires : tie.Need-add-requires
 add-requires c κs = search needs
 
-mul-at : tie.Need-mul-at
-mul-at c = search needs
-
-mul-at-2 : tie.Need-mul-at-2
-mul-at-2 c = search needs
-
-add-at : tie.Need-add-at
-add-at c = search needs
-
-add-write32-little : tie.Need-add-write32-little
-add-write32-little c = search needs
-
-write32-little-requires : tie.Need-write32-little-requires
-write32-little-requires c κs = search needs
-
-add-write64-little : tie.Need-add-write64-little
-add-write64-little c = search needs
-
-write64-little-requires : tie.Need-write64-little-requires
-write64-little-requires c κs = search needs
-
-add-write32-little-2 : tie.Need-add-write32-little-2
-add-write32-little-2 c = search needs
-
-cast-write32-little : tie.Need-cast-write32-little
-cast-write32-little c = search needs
-
-write32-little-requires-2 : tie.Need-write32-little-requires-2
-write32-little-requires-2 c κs = search needs
+write-row-requires : tie.Need-write-row-requires
+write-row-requires c κs = search needs
 
 same-length : tie.Need-same-length
 same-length c = search needs
 
 returns : tie.Need-returns
 returns c =
-    let back = c .before .before in
-    let cost = back .before .before .before .before in
-    let mark = cost .before .before .before .before in
-    let more = mark .before .before .before .before in
+    let wrote = c .before .before in
+    let more = wrote .before .before .before .before in
     let lent = more .before .before in
     let start = lent .before in
     let args = start .args in
-    let words : Words (args .c) = record { high-word = omega (arith, start .good); low-word = omega (arith, start .good) } in
-    let added = more .add .ensures in
-    let roomy = added .known .roomy in
-    let small = roomy .small in
-    let wrote = written-by _ (args .room) (args .count) (args .g) (args .before) roomy (omega (arith, start .pre .1 .0)) (omega (arith, start .good)) (omega (arith, start .pre .1)) (mark .write32-little .ensures) (cost .write64-little .ensures) (back .write32-little2 .ensures) in (
-      cell-new (args .workspace .now) _ _ (args .room) (args .count) (args .c) (args .g) (args .before) (start .pre .0) (start .pre .1 .1 .0) (start .pre .1 .1 .1) added wrote,
-      appended (args .workspace .now) _ _ (args .room) (args .count) (args .c) (args .g) (args .before) (start .pre .0) (start .pre .1 .1 .0) (start .pre .1 .1 .1) added wrote (λ k. omega (arith, lent .slice-known .given k)) words,
+    let words : Words (args .c) = record { high-word = omega (arith, start .good); low-word = omega (arith, start .good) } in (
+      cell-new (args .workspace .now) _ _ (args .room) (args .count) (args .c) (args .g) (args .before) (start .pre .0) (start .pre .1 .1 .0) (start .pre .1 .1 .1) (more .add .ensures) (wrote .write-row .ensures),
+      appended (args .workspace .now) _ _ (args .room) (args .count) (args .c) (args .g) (args .before) (start .pre .0) (start .pre .1 .1 .0) (start .pre .1 .1 .1) (more .add .ensures) (wrote .write-row .ensures) (λ k. omega (arith, lent .slice-known .given k)) words,
     )
 
 pub append-spec : {M : Type 1} → statement M
-append-spec =
-    tie.close
-    (tie.spec
-    add-requires
-    mul-at
-    mul-at-2
-    add-at
-    add-write32-little
-    write32-little-requires
-    add-write64-little
-    write64-little-requires
-    add-write32-little-2
-    cast-write32-little
-    write32-little-requires-2
-    same-length
-    returns)
+append-spec = tie.close (tie.spec add-requires write-row-requires same-length returns)

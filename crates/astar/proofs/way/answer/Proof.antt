@@ -1,3 +1,4 @@
+-- A route that is too long for the output, or its cells, its cost and its count.
 use native.Mathlib.Omega.{arith}
 use Rattle.astar.specs.Answer.{wayTo}
 use Rattle.astar.specs.WayLaws.{way-refused, way-found}
@@ -15,19 +16,37 @@ same-length : tie.Need-same-length
 same-length c = search needs
 
 returns : tie.Need-returns
-returns c = way-refused (wayTo ((c .before .before .before .before .before .before .args) .plan) ((c .before .before .before .before .before .before .args) .workspace .now) ((c .before .before .before .before .before .before .args) .sizes) ((c .before .before .before .before .before .before .args) .i)) _ _ ((c .before .before .before .cells-to) .result) ((c .before .before .before .before .before .before .args) .output .now) ((c .before .before .before .cells-to) .ensures) (omega (arith, (c .if1) .taken, (c .before .room) .ensures))
+returns c =
+    let at-room = c .before in
+    let at-cells-to = at-room .before .before in
+    let entry = at-cells-to .before .before .before in
+    let args = entry .args in
+    way-refused (wayTo (args .plan) (args .workspace .now) (args .sizes) (args .i)) _ _ (at-cells-to .cells-to .result) (args .output .now) (at-cells-to .cells-to .ensures) (omega (arith, c .if1 .taken, at-room .room .ensures))
 
 g-at-requires : tie.Need-g-at-requires
 g-at-requires c κs = search needs
 
 write-requires : tie.Need-write-requires
-write-requires c κs = ((c .before .before .before .before .before .before .before .before .pre) .0, ((c .before .before .before .before .before .before .before .before .pre) .1 .0, ((c .before .before .before .before .before .cells-to) .ensures, omega (arith, (c .before .before .if1) .left, (c .before .before .before .room) .ensures))))
+write-requires c κs =
+    let at-if1 = c .before .before in
+    let at-room = at-if1 .before in
+    let at-cells-to = at-room .before .before in
+    let entry = at-cells-to .before .before .before in
+    (entry .pre .0, (entry .pre .1 .0, (at-cells-to .cells-to .ensures, omega (arith, at-if1 .if1 .left, at-room .room .ensures))))
 
 same-length-2 : tie.Need-same-length-2
 same-length-2 c = search needs
 
 returns-2 : tie.Need-returns-2
-returns-2 c = way-found (wayTo ((c .before .before .before .before .before .before .before .before .before .before .before .args) .plan) ((c .before .before .before .before .before .before .before .before .before .before .before .args) .workspace .now) ((c .before .before .before .before .before .before .before .before .before .before .before .args) .sizes) ((c .before .before .before .before .before .before .before .before .before .before .before .args) .i)) _ _ ((c .before .before .before .before .before .before .before .before .cells-to) .result) ((c .before .before .before .before .before .before .before .before .before .before .before .args) .output .now) ((c .before .before .before .before .before .before .before .before .cells-to) .ensures) _ _ (omega (arith, (c .before .before .before .before .before .if1) .left, (c .before .before .before .before .before .before .room) .ensures)) ((c .before .before .before .before .g-at) .ensures) ((c .before .before .write) .ensures)
+returns-2 c =
+    let at-write = c .before .before in
+    let at-g-at = at-write .before .before in
+    let at-if1 = at-g-at .before in
+    let at-room = at-if1 .before in
+    let at-cells-to = at-room .before .before in
+    let entry = at-cells-to .before .before .before in
+    let args = entry .args in
+    way-found (wayTo (args .plan) (args .workspace .now) (args .sizes) (args .i)) _ _ (at-cells-to .cells-to .result) (args .output .now) (at-cells-to .cells-to .ensures) _ _ (omega (arith, at-if1 .if1 .left, at-room .room .ensures)) (at-g-at .g-at .ensures) (at-write .write .ensures)
 
 pub answer-spec : {M : Type 1} → statement M
 answer-spec =

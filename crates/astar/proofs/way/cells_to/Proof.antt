@@ -22,22 +22,40 @@ same-requires : tie.Need-same-requires Inv-loop μ-loop
 same-requires c κs = search needs
 
 returns : tie.Need-returns Inv-loop μ-loop
-returns c = counting-ends ((c .before .before .before .before .loop) .inv) _ ((c .before .before .cell-at) .ensures) (sym ((c .before .same) .ensures) ∙ (c .if1) .taken)
+returns c =
+    let at-same = c .before in
+    let at-cell-at = at-same .before in
+    let at-loop = at-cell-at .before .before in
+    counting-ends (at-loop .loop .inv) _ (at-cell-at .cell-at .ensures) (sym (at-same .same .ensures) ∙ c .if1 .taken)
 
 before-at-requires : tie.Need-before-at-requires Inv-loop μ-loop
-before-at-requires c κs = ((c .before .before .before .before .before .before .pre) .0, (c .before .before .before .before .loop) .inv .tracing .below)
+before-at-requires c κs =
+    let at-loop = c .before .before .before .before in
+    let entry = at-loop .before .before in
+    (entry .pre .0, at-loop .loop .inv .tracing .below)
 
 sub-left : tie.Need-sub-left Inv-loop μ-loop
 sub-left c = omega arith
 
 add-cells : tie.Need-add-cells Inv-loop μ-loop
-add-cells c = omega (arith, (c .before .before .before .before .before .loop) .inv .together, (c .before .before .before .before .before .before .before .pre) .1 .1)
+add-cells c =
+    let at-loop = c .before .before .before .before .before in
+    let entry = at-loop .before .before in
+    omega (arith, at-loop .loop .inv .together, entry .pre .1 .1)
 
 loop-less : tie.Need-loop-less Inv-loop μ-loop
 loop-less c = omega arith
 
 loop-again : tie.Need-loop-again Inv-loop μ-loop
-loop-again c = counting-next ((c .before .before .before .before .before .loop) .inv) _ ((c .before .before .before .cell-at) .ensures) ((c .before .before .before .before .before .before .before .pre) .0) (λ k. omega (arith, (c .before .before .before .before .before .before .shared-slice-known) .given k)) ((c .before .before .before .before .loop-test) .taken) (sym ((c .before .before .same) .ensures) ∙ (c .before .if1) .left) _ ((c .before-at) .ensures)
+loop-again c =
+    let at-if1 = c .before in
+    let at-same = at-if1 .before in
+    let at-cell-at = at-same .before in
+    let at-loop-test = at-cell-at .before in
+    let at-loop = at-loop-test .before in
+    let at-shared-slice-known = at-loop .before in
+    let entry = at-shared-slice-known .before in
+    counting-next (at-loop .loop .inv) _ (at-cell-at .cell-at .ensures) (entry .pre .0) (λ k. omega (arith, at-shared-slice-known .shared-slice-known .given k)) (at-loop-test .loop-test .taken) (sym (at-same .same .ensures) ∙ at-if1 .if1 .left) _ (c .before-at .ensures)
 
 returns-2 : tie.Need-returns-2 Inv-loop μ-loop
 returns-2 c = counting-out ((c .before .loop) .inv) ((c .loop-test) .left)

@@ -18,13 +18,19 @@ loop-holds : tie.Need-loop-holds Inv-loop μ-loop
 loop-holds c = writing-start ((c .before .before .pre) .1 .0) ((c .before .before .pre) .1 .1 .0) ((c .before .before .pre) .1 .1 .1)
 
 cell-at-requires : tie.Need-cell-at-requires Inv-loop μ-loop
-cell-at-requires c κs = ((c .before .before .before .before .before .pre) .0 .known .roomy, omega (arith, (c .before .before .loop) .inv .tracing .below, (c .before .before .before .before .before .pre) .0 .known .count))
+cell-at-requires c κs =
+    let at-loop = c .before .before in
+    let entry = at-loop .before .before .before in
+    (entry .pre .0 .known .roomy, omega (arith, at-loop .loop .inv .tracing .below, entry .pre .0 .known .count))
 
 put-requires : tie.Need-put-requires Inv-loop μ-loop
 put-requires c κs = writing-within ((c .before .before .before .loop) .inv)
 
 before-at-requires : tie.Need-before-at-requires Inv-loop μ-loop
-before-at-requires c κs = ((c .before .before .before .before .before .before .before .before .before .pre) .0, (c .before .before .before .before .before .before .loop) .inv .tracing .below)
+before-at-requires c κs =
+    let at-loop = c .before .before .before .before .before .before in
+    let entry = at-loop .before .before .before in
+    (entry .pre .0, at-loop .loop .inv .tracing .below)
 
 sub-place-2 : tie.Need-sub-place-2 Inv-loop μ-loop
 sub-place-2 c = omega arith
@@ -33,19 +39,38 @@ loop-less : tie.Need-loop-less Inv-loop μ-loop
 loop-less c = omega arith
 
 loop-again : tie.Need-loop-again Inv-loop μ-loop
-loop-again c = writing-next ((c .before .before .before .before .before .before .before .loop) .inv) (λ k. omega (arith, (c .before .before .before .before .before .before .before .before .before .shared-slice-known) .given k)) _ ((c .before .before .before .before .cell-at) .ensures) _ ((c .before .before .before .put) .ensures) ((c .before .before .before .before .before .before .before .before .before .before .pre) .0) ((c .before .before .before .before .before .before .loop-test) .taken) _ ((c .before-at) .ensures)
+loop-again c =
+    let at-put = c .before .before .before in
+    let at-cell-at = at-put .before in
+    let at-loop-test = at-cell-at .before .before in
+    let at-loop = at-loop-test .before in
+    let at-shared-slice-known = at-loop .before .before in
+    let entry = at-shared-slice-known .before in
+    writing-next (at-loop .loop .inv) (λ k. omega (arith, at-shared-slice-known .shared-slice-known .given k)) _ (at-cell-at .cell-at .ensures) _ (at-put .put .ensures) (entry .pre .0) (at-loop-test .loop-test .taken) _ (c .before-at .ensures)
 
 cell-at-requires-2 : tie.Need-cell-at-requires-2 Inv-loop μ-loop
-cell-at-requires-2 c κs = ((c .before .before .before .before .before .pre) .0 .known .roomy, omega (arith, (c .before .before .loop) .inv .tracing .below, (c .before .before .before .before .before .pre) .0 .known .count))
+cell-at-requires-2 c κs =
+    let at-loop = c .before .before in
+    let entry = at-loop .before .before .before in
+    (entry .pre .0 .known .roomy, omega (arith, at-loop .loop .inv .tracing .below, entry .pre .0 .known .count))
 
 put-requires-2 : tie.Need-put-requires-2 Inv-loop μ-loop
 put-requires-2 c κs = omega (arith, writing-within ((c .before .before .before .loop) .inv))
 
 same-length : tie.Need-same-length Inv-loop μ-loop
-same-length c = (c .before .before .put2) .kept .0 ∙ writing-length ((c .before .before .before .before .before .before .loop) .inv)
+same-length c =
+    let at-put2 = c .before .before in
+    let at-loop = at-put2 .before .before .before .before in
+    at-put2 .put2 .kept .0 ∙ writing-length (at-loop .loop .inv)
 
 returns : tie.Need-returns Inv-loop μ-loop
-returns c = writing-last ((c .before .before .before .before .before .before .loop) .inv) (λ k. omega (arith, (c .before .before .before .before .before .before .before .before .shared-slice-known) .given k)) _ ((c .before .before .before .cell-at2) .ensures) _ ((c .before .before .put2) .ensures) ((c .before .before .before .before .before .loop-test) .left)
+returns c =
+    let at-put2 = c .before .before in
+    let at-cell-at2 = at-put2 .before in
+    let at-loop-test = at-cell-at2 .before .before in
+    let at-loop = at-loop-test .before in
+    let at-shared-slice-known = at-loop .before .before in
+    writing-last (at-loop .loop .inv) (λ k. omega (arith, at-shared-slice-known .shared-slice-known .given k)) _ (at-cell-at2 .cell-at2 .ensures) _ (at-put2 .put2 .ensures) (at-loop-test .loop-test .left)
 
 pub write-spec : {M : Type 1} → statement M
 write-spec =

@@ -30,11 +30,11 @@ search-from-requires c κs =
     let args = entry .args in
     rooms-tested (args .known) (args .waiting) (args .workspace .now) (args .heap .now) (sym (at-has-rooms .has-rooms .ensures) ∙ not-false _ (at-if1 .if1 .left))
 
-zero-requires : tie.Need-zero-requires
-zero-requires c κs = search needs
+wipe-requires : tie.Need-wipe-requires
+wipe-requires c κs = search needs
 
-zero-requires-2 : tie.Need-zero-requires-2
-zero-requires-2 c κs = search needs
+wipe-requires-2 : tie.Need-wipe-requires-2
+wipe-requires-2 c κs = search needs
 
 same-length-3 : tie.Need-same-length-3
 same-length-3 c = search needs
@@ -47,14 +47,14 @@ same-length-5 c = search needs
 
 returns-2 : tie.Need-returns-2
 returns-2 c =
-    let at-zero2 = c .before .before in
-    let at-zero = at-zero2 .before .before .before .before in
-    let at-search-from = at-zero .before .before .before .before .before .before .before .before in
+    let at-wipe2 = c .before .before in
+    let at-wipe = at-wipe2 .before .before .before .before in
+    let at-search-from = at-wipe .before .before .before .before .before .before .before .before in
     let at-if1 = at-search-from .before .before .before .before in
     let at-has-rooms = at-if1 .before in
     let entry = at-has-rooms .before .before .before .before .before .before .before .before .before in
     let args = entry .args in
-    searched-wiped (args .start .now) (args .goal .now) (args .known) (args .waiting) (args .limit) (args .rule) (args .flags .now) (args .count) (args .workspace .now) (args .heap .now) (args .output .now) (at-search-from .search-from .last .1 .1 .1 .1 .1 .1 .1 .1 .0) (at-search-from .search-from .last .1 .1 .1 .1 .1 .1 .1 .1 .1 .0) (sym (at-has-rooms .has-rooms .ensures) ∙ not-false _ (at-if1 .if1 .left)) (at-search-from .search-from .ensures .0) (at-search-from .search-from .ensures .1 .0) (at-zero .zero .ensures) (at-search-from .search-from .ensures .1 .1) (at-zero2 .zero2 .ensures)
+    searched-wiped (args .start .now) (args .goal .now) (args .known) (args .waiting) (args .limit) (args .rule) (args .flags .now) (args .count) (args .workspace .now) (args .heap .now) (args .output .now) (at-search-from .search-from .last .1 .1 .1 .1 .1 .1 .1 .1 .0) (at-search-from .search-from .last .1 .1 .1 .1 .1 .1 .1 .1 .1 .0) (sym (at-has-rooms .has-rooms .ensures) ∙ not-false _ (at-if1 .if1 .left)) (at-search-from .search-from .ensures .0) (at-search-from .search-from .ensures .1 .0) (at-wipe .wipe .ensures) (at-search-from .search-from .ensures .1 .1) (at-wipe2 .wipe2 .ensures)
 
 pub astar-with-limit-spec : {M : Type 1} → statement M
 astar-with-limit-spec =
@@ -65,8 +65,8 @@ astar-with-limit-spec =
     same-length-2
     returns
     search-from-requires
-    zero-requires
-    zero-requires-2
+    wipe-requires
+    wipe-requires-2
     same-length-3
     same-length-4
     same-length-5

@@ -44,7 +44,7 @@ returns-2 c =
     let at-h = at-clear .before .before .before in
     let at-ahead = at-h .before .before in
     let entry = at-ahead .before .before .before .before .before .before in
-    begin-meets (entry .args .plan) _ _ _ _ _ _ _ _ _ (rw (at-h .h .given .1) at (at-ahead .ahead .ensures .0)) (rw (at-h .h .given .1) at (at-ahead .ahead .ensures .1)) (record { high-word = omega (arith, entry .good); low-word = omega (arith, entry .good) }) (at-clear .clear .ensures) (at-clear .clear .kept .0) (entry .pre .1 .0) (entry .pre .1 .1) (at-append .append .ensures .0) (at-append .append .ensures .1) (at-push .push .ensures)
+    begin-meets (entry .args .plan) _ _ _ _ _ _ _ _ _ (rw (at-h .h .given .1) at (at-ahead .ahead .ensures .0)) (rw (at-h .h .given .1) at (at-ahead .ahead .ensures .1)) (record { high-word = omega (arith, entry .good); low-word = omega (arith, entry .good) }) (at-clear .clear .ensures) (at-clear .clear .kept .0) (entry .pre) (at-append .append .ensures .0) (at-append .append .ensures .1) (at-push .push .ensures)
 
 pub begin-spec : {M : Type 1} → statement M
 begin-spec =

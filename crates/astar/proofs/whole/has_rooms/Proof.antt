@@ -7,8 +7,9 @@ use lib.Dec.{leb}
 use lib.ListN.{length}
 use borrow.Author.Needs.{needs}
 use borrow.Author.Tests.{le-leb, lt-leb}
-use Rattle.astar.specs.Call.{isRoom, hasRooms}
-use Rattle.astar.specs.CallLaws.{room-tested}
+use Rattle.known.specs.Workspace.{isRoom}
+use Rattle.known.specs.WorkspaceLaws.{room-tested}
+use Rattle.astar.specs.Call.{hasRooms}
 use Rattle.astar.proofs.whole.has_rooms.Statement.{statement}
 use Rattle.astar.proofs.whole.has_rooms.Tie as tie
 

@@ -27,7 +27,7 @@ run-requires c κs =
     let at-first = c .before .before .before in
     let at-begin = at-first .before .before .before .before .before .before in
     let entry = at-begin .before .before .before .before .before .before in
-    ((rw (at-first .first .given .1) at (at-begin .begin .ensures)) .good, entry .pre .1 .1 .1)
+    ((rw (at-first .first .given .1) at (at-begin .begin .ensures)) .good, entry .pre .sound)
 
 same-length-3 : tie.Need-same-length-3
 same-length-3 c = search needs

@@ -24,9 +24,7 @@ enum-known-e : tie.Need-enum-known-e
 enum-known-e c = search needs
 
 search-in-layer-requires : tie.Need-search-in-layer-requires
-search-in-layer-requires c κs =
-    let entry = c .before .before .before .before .before .before .before .before .before .before .before .before .before .before .before .before .before in
-    (entry .pre .roomy, (entry .pre .waits, entry .pre .size))
+search-in-layer-requires c κs = search needs
 
 returns : tie.Need-returns
 returns c =

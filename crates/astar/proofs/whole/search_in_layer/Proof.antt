@@ -31,7 +31,7 @@ search-requires c κs =
     let at-if1 = c .before .before .before .before .before in
     let at-is-sound = at-if1 .before in
     let entry = at-is-sound .before .before .before .before .before in
-    (entry .pre .0, (entry .pre .1 .0, (entry .pre .1 .1, sym (at-is-sound .is-sound .ensures) ∙ not-false _ (at-if1 .if1 .left))))
+    record { rooms = entry .pre; sound = sym (at-is-sound .is-sound .ensures) ∙ not-false _ (at-if1 .if1 .left) }
 
 same-length : tie.Need-same-length
 same-length c = search needs

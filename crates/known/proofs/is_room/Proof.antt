@@ -3,8 +3,8 @@ use mathlib.Core.Path.{sym}
 use mathlib.Core.Bool.{_&&_}
 use borrow.Author.Tests.{le-leb, lt-leb}
 use lib.Dec.{leb}
-use Rattle.astar.proofs.whole.is_room.Statement.{statement}
-use Rattle.astar.proofs.whole.is_room.Tie as tie
+use Rattle.known.proofs.is_room.Statement.{statement}
+use Rattle.known.proofs.is_room.Tie as tie
 
 returns : tie.Need-returns
 returns c = λ i. sym (le-leb _ _ (c .if1 .taken)) i && leb (c .before .args .n) 65536
