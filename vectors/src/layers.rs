@@ -87,7 +87,7 @@ impl List {
             _ => Request::new(call, &[count], &[&table.bytes, &cell]),
         };
         let answer = expected(&request);
-        let [first, second, third, _] = answer.values;
+        let [first, second, third, ..] = answer.values;
         let (found, said, count) = match call {
             Call::Set(_) => (0, 0, first),
             Call::Get(_) | Call::Remove(_) => (first, second, third),
