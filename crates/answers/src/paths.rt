@@ -1,6 +1,6 @@
 // The Rust oracle's answers on rings and lines, replayed: each record is a call by itself, with its own workspace and output.
 // vectors/src/paths.rs has the format of a record and the numbers of the calls.
-ghost use Prim.Native.Nat.{_+_, _/_, _≤_, _<_};
+ghost use Prim.Native.Nat.{_/_, _≤_};
 ghost use lib.ListN.{length};
 ghost use Rattle.answers.specs.Counted.{Counted};
 use crate::Form;

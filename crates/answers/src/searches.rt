@@ -1,8 +1,10 @@
 // The Rust oracle's answers on searches, replayed: each record is a call by itself, with its own workspaces and output, and names a body elsewhere in the list:
 // 64 bytes of what is expected, then the flag layer, then the route. vectors/src/searches.rs has the format of both and the numbers of the calls.
-ghost use Prim.Native.Nat.{_+_, _/_, _≤_, _<_};
+ghost use mathlib.Core.Path.{_≡_};
+ghost use Prim.Native.Nat.{_/_, _≤_};
 ghost use lib.ListN.{length};
 ghost use Rattle.answers.specs.Counted.{Counted};
+ghost use Rattle.answers.specs.Searches.{recordBytes};
 use crate::Form;
 use crate::Tally;
 use tishkolan::searches;
@@ -177,9 +179,9 @@ pub fn agrees(list: &[u8], record: &[u8; 64]) -> bool {
 
 // ---- the list
 
-// How many bytes the records take: the first body begins behind the last record.
-pub fn records(list: &[u8]) -> usize
-    ensures { λ r. ⌜ r ≤ length (now (list .entry)) ⌝ }
+// How many bytes the records take. Behind them stand their bodies.
+fn record_bytes(list: &[u8]) -> usize
+    ensures { λ r. ⌜ (r ≡ recordBytes (now (list .entry))) × (r ≤ length (now (list .entry))) ⌝ }
 {
     if list.len() < 64 {
         return 0;
@@ -191,9 +193,10 @@ pub fn records(list: &[u8]) -> usize
     body
 }
 
-// Replays the records, whose bodies stand in the list.
-pub fn replay(records: &[u8], list: &[u8]) -> Tally
-    ensures { λ t. ⌜ Counted (length (now (records .entry)) / 64) t ⌝ }
+// Replays the list of searches.
+pub fn replay(list: &[u8]) -> Tally
+    ensures { λ t. ⌜ Counted (recordBytes (now (list .entry)) / 64) t ⌝ }
 {
-    crate::replay_each(records, list, Form::Searches)
+    let end = record_bytes(list);
+    crate::replay_each(&list[0..end], list, Form::Searches)
 }

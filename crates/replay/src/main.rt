@@ -25,15 +25,6 @@ fn print_tally(tally: Tally, what: &[u8]) {
     }
 }
 
-// The records of the searches stand at the front of their list, and their bodies behind.
-fn report_searches(list: &[u8]) {
-    let length = answers::searches::records(list);
-    print_tally(
-        answers::searches::replay(&list[..length], list),
-        b" answers on searches, ",
-    );
-}
-
 fn report_answers(list: &[u8], argument: usize) {
     match argument {
         LAYERS => print_tally(answers::layers::replay(list), b" answers on layers, "),
@@ -41,7 +32,7 @@ fn report_answers(list: &[u8], argument: usize) {
             answers::paths::replay(list),
             b" answers on rings and lines, ",
         ),
-        SEARCHES => report_searches(list),
+        SEARCHES => print_tally(answers::searches::replay(list), b" answers on searches, "),
         _ => print_tally(answers::replay(list), b" answers, "),
     }
 }
