@@ -264,7 +264,8 @@ fn edges(list: &mut List) {
     ] {
         list.exact(start, goal, &nothing(0));
     }
-    // The difference of start and goal: the first leaves i32, the second does not, and a neighbour's does.
+    // Start less goal: one that leaves i32; one that fits where a neighbour's does not; one that fits, from
+    // a start on the edge.
     for (start, goal) in [
         (plain(0, 0, 0), plain(MIN, 0, 0)),
         (plain(-2, 0, 0), plain(MAX - 1, 0, 0)),
@@ -304,6 +305,10 @@ fn limits(list: &mut List) {
         let search = Search::within(zero, goal, &nothing(0), rooms(200, 200, 20));
         list.add(search.limited(9));
     }
+    // A goal that is blocked is not reached either.
+    let goal = plain(2, 2, 0);
+    let search = Search::within(zero, goal, &blocking(&[goal]), rooms(200, 200, 20));
+    list.add(search.limited(9));
 }
 
 fn rooms_short(list: &mut List) {
@@ -337,7 +342,7 @@ fn rooms_short(list: &mut List) {
     list.add(longer);
 }
 
-// ---- refusals before the search
+// ---- other refusals
 
 fn no_path(list: &mut List) {
     let start = at(3, 9, [-3, 1, -1], 0);
@@ -353,7 +358,7 @@ fn no_path(list: &mut List) {
 fn refused(list: &mut List) {
     let (zero, two) = (plain(0, 0, 0), plain(2, 2, 0));
     let usual = exact(zero, two, &nothing(0));
-    // Each change by itself, then with a fault that comes later.
+    // Every second one with a start that is too short, which would come later.
     let bad_workspaces: [fn(&mut Search); 6] = [
         |search| search.known = 0,
         |search| search.known = 65_537,
