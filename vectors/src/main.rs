@@ -1,9 +1,9 @@
-//! Writes three fixed lists of the oracle's answers, which the crate `replay` replays with no Rust at hand.
+//! Writes four fixed lists of the oracle's answers, which the crate `replay` replays with no Rust at hand.
 //! No library is involved, and the files are the same each time.
 //!
-//!     vectors [FOLDER]      answers.bin, layers.bin and paths.bin, in crates/replay/data unless named
+//!     vectors [FOLDER]      answers.bin, layers.bin, paths.bin and searches.bin, in crates/replay/data unless named
 //!
-//! `layers.bin` is described in layers.rs, `paths.bin` in paths.rs. `answers.bin` is records of 64 bytes, at most 1,000, all numbers big-endian:
+//! `layers.bin` is described in layers.rs, `paths.bin` in paths.rs, `searches.bin` in searches.rs. `answers.bin` is records of 64 bytes, at most 1,000, all numbers big-endian:
 //!
 //! | bytes | what |
 //! |---|---|
@@ -47,6 +47,7 @@
 
 mod layers;
 mod paths;
+mod searches;
 
 use compare::calls::{Call, Parameter, Request};
 use compare::expected::{expected, quiet, Answer};
@@ -572,10 +573,14 @@ fn cells(list: &mut List) {
     }
 }
 
-/// Writes one list, of records that are at most so many.
+/// Writes one list that is nothing but records, of which there are at most so many.
 fn write(folder: &str, name: &str, bytes: &[u8], most: usize) {
+    write_records(folder, name, bytes, bytes.len() / RECORD, most);
+}
+
+/// Writes one list, of records that are at most so many.
+fn write_records(folder: &str, name: &str, bytes: &[u8], records: usize, most: usize) {
     let file = format!("{folder}/{name}");
-    let records = bytes.len() / RECORD;
     assert!(records <= most, "{records} records do not fit the format");
     if let Err(error) = std::fs::write(&file, bytes) {
         eprintln!("vectors: {file}: {error}");
@@ -598,4 +603,6 @@ fn main() {
     write(&folder, "answers.bin", &list.bytes, 1000);
     write(&folder, "layers.bin", &layers::records(), 400);
     write(&folder, "paths.bin", &paths::records(), 100);
+    let (searches, count) = searches::records();
+    write_records(&folder, "searches.bin", &searches, count, 120);
 }

@@ -31,8 +31,8 @@ use oracle::id::CellID;
 
 type Cell = [u8; 16];
 
-const BEFORE: u8 = 0xAA;
-const MOST_CELL: usize = 17;
+pub const BEFORE: u8 = 0xAA;
+pub const MOST_CELL: usize = 17;
 const MOST_OUTPUT: usize = 3200;
 const MOST_WORKSPACE: usize = 8000;
 
@@ -109,7 +109,7 @@ fn of(cell: Cell) -> CellID {
 }
 
 /// As many bytes of a cell as there is place for.
-fn put_cell(place: &mut [u8], cell: &[u8]) {
+pub fn put_cell(place: &mut [u8], cell: &[u8]) {
     let length = cell.len().min(place.len());
     place[..length].copy_from_slice(&cell[..length]);
 }

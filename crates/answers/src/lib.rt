@@ -16,11 +16,18 @@ use tishkolan::told::RefusalTold;
 
 pub mod layers;
 pub mod paths;
+pub mod searches;
 
 // What a lent buffer holds before a call, and still holds where the call has nothing to write.
 const UNTOUCHED: u8 = 0xA5;
 
 const UNTOUCHED_NUMBER: i32 = -1515870811;
+
+// What each byte that is lent to rings, lines and searches is before a call.
+const BEFORE: u8 = 0xAA;
+
+// The number of the refusal of a workspace, which then stays as it was.
+const WORKSPACE_REFUSED: u8 = 11;
 
 // How many records a list has, how many calls said something else than their record, and the first of these, counted from 0.
 pub struct Tally {
@@ -35,6 +42,8 @@ enum Form {
     Cells,
     // Rings and lines.
     Paths,
+    // Searches, each with a body that the list has behind its records.
+    Searches,
 }
 
 // ---- what stands in a record
@@ -80,6 +89,31 @@ fn first_cell(record: &[u8; 64]) -> &[u8] {
 
 fn second_cell(record: &[u8; 64]) -> &[u8] {
     slice(record, 24, small(record[3]))
+}
+
+// A number of two bytes: a count, or a length in bytes.
+fn count_at(record: &[u8; 64], at: usize) -> usize
+    requires { ⌜ at + 2 ≤ 64 ⌝ }
+    ensures { λ r. ⌜ r < 65536 ⌝ }
+{
+    words::read16_big(record, at) as usize
+}
+
+// A number of four bytes, as how many cells a room is said to have.
+fn room_at(record: &[u8; 64], at: usize) -> usize
+    requires { ⌜ at + 4 ≤ 64 ⌝ }
+{
+    words::read32_big(record, at) as usize
+}
+
+// The centre of a ring, or the start of a line or a search.
+fn start(record: &[u8; 64]) -> &[u8] {
+    slice(record, 8, small(record[1]))
+}
+
+// The end of a line, or the goal of a search.
+fn end(record: &[u8; 64]) -> &[u8] {
+    slice(record, 24, small(record[2]))
 }
 
 // The length of the buffer that is lent, in bytes or numbers.
@@ -205,18 +239,28 @@ fn same_fields(record: &[u8; 64], told: FieldsTold) -> bool {
         && told.z == answer_number(record, 53)
 }
 
-// Whether the cell of 16 bytes at `at` is the record's.
-fn same_cell(record: &[u8; 64], out: &[u8; 256], at: usize) -> bool
-    requires { ⌜ at + 16 ≤ 256 ⌝ }
-{
+// Whether both have the same bytes.
+fn same_bytes(one: &[u8], other: &[u8]) -> bool {
+    if one.len() != other.len() {
+        return false;
+    }
     let mut i = 0;
-    while i < 16 {
-        if out[at + i] != record[40 + i] {
+    while i < one.len() {
+        if one[i] != other[i] {
             return false;
         }
         i += 1;
     }
     true
+}
+
+// Whether the cell of 16 bytes at `at` is the record's.
+fn same_cell(record: &[u8; 64], out: &[u8; 256], at: usize) -> bool
+    requires { ⌜ at + 16 ≤ 256 ⌝ }
+{
+    let expected = &record[..];
+    let whole = &out[..];
+    same_bytes(&whole[at..at + 16], &expected[40..56])
 }
 
 // Whether each byte is this one.
@@ -248,6 +292,27 @@ fn kept_numbers(out: &[i32; 256], from: usize) -> bool {
         i += 1;
     }
     true
+}
+
+// The refusal of a ring, a line or a search.
+fn same_path_refusal(record: &[u8; 64], told: RefusalTold) -> bool {
+    told.number == wide(record[3])
+        && told.room == wide(record[41])
+        && told.x == number(record, 44)
+        && told.y == number(record, 48)
+        && told.z == number(record, 52)
+}
+
+fn workspace_after(record: &[u8; 64]) -> u8 {
+    if record[3] == WORKSPACE_REFUSED {
+        return BEFORE;
+    }
+    0
+}
+
+// Whether a workspace is all zero, or all as it was where it is refused.
+fn same_workspace(record: &[u8; 64], workspace: &[u8]) -> bool {
+    filled(workspace, workspace_after(record))
 }
 
 // The record's one of `count` cells is where it belongs, and nothing is written behind the last; where the call refuses, nothing at all.
@@ -501,13 +566,15 @@ fn record_at(list: &[u8], at: usize) -> [u8; 64]
     record
 }
 
-fn agrees_at(list: &[u8], at: usize, form: Form) -> bool
-    requires { ⌜ at + 64 ≤ length (now list) ⌝ }
+// Of a search also the list that has its body.
+fn agrees_at(records: &[u8], list: &[u8], at: usize, form: Form) -> bool
+    requires { ⌜ at + 64 ≤ length (now records) ⌝ }
 {
-    let record = record_at(list, at);
+    let record = record_at(records, at);
     match form {
         Form::Cells => agrees(&record),
         Form::Paths => paths::agrees(&record),
+        Form::Searches => searches::agrees(list, &record),
     }
 }
 
@@ -550,14 +617,14 @@ fn tallied(tally: Tally, agrees: bool) -> Tally
     }
 }
 
-// Replays each record of the list by itself. A rest that is no whole record is left out.
-fn replay_each(list: &[u8], form: Form) -> Tally
-    ensures { λ t. ⌜ Counted (length (now (list .entry)) / 64) t ⌝ }
+// Replays each record by itself, with the list that has the bodies. A rest that is no whole record is left out.
+fn replay_each(records: &[u8], list: &[u8], form: Form) -> Tally
+    ensures { λ t. ⌜ Counted (length (now (records .entry)) / 64) t ⌝ }
 {
-    let records = list.len() / 64;
+    let count = records.len() / 64;
     let mut tally = nothing();
-    while tally.answers < records {
-        tally = tallied(tally, agrees_at(list, 64 * tally.answers, form));
+    while tally.answers < count {
+        tally = tallied(tally, agrees_at(records, list, 64 * tally.answers, form));
     }
     tally
 }
@@ -566,5 +633,5 @@ fn replay_each(list: &[u8], form: Form) -> Tally
 pub fn replay(list: &[u8]) -> Tally
     ensures { λ t. ⌜ Counted (length (now (list .entry)) / 64) t ⌝ }
 {
-    replay_each(list, Form::Cells)
+    replay_each(list, list, Form::Cells)
 }

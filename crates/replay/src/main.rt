@@ -1,5 +1,5 @@
-// Replays the three lists of the Rust oracle's answers that its arguments name, of points and cells, of layers, and of rings and lines, and prints
-// of each how many of the calls answer otherwise. They were made by `oracle/build` and `target/oracle/checked/vectors crates/replay/data`, from
+// Replays the four lists of the Rust oracle's answers that its arguments name, of points and cells, of layers, of rings and lines, and of searches, and
+// prints of each how many of the calls answer otherwise. They were made by `oracle/build` and `target/oracle/checked/vectors crates/replay/data`, from
 // the Rust files of oracle/octaindex3d with the patches of oracle/patches; tests/run makes them anew and compares.
 use answers::Tally;
 use libc::STDOUT_FILENO;
@@ -10,6 +10,8 @@ const CELLS: usize = 1;
 const LAYERS: usize = 2;
 
 const PATHS: usize = 3;
+
+const SEARCHES: usize = 4;
 
 // The answers, those that differ, and the first of them.
 fn print_tally(tally: Tally, what: &[u8]) {
@@ -30,14 +32,15 @@ fn report_answers(list: &[u8], argument: usize) {
             answers::paths::replay(list),
             b" answers on rings and lines, ",
         ),
+        SEARCHES => print_tally(answers::searches::replay(list), b" answers on searches, "),
         _ => print_tally(answers::replay(list), b" answers, "),
     }
 }
 
-// One line, which also says whether the list is cut off.
+// One line, which also says whether the list is cut off. Of a list of searches that shows in the search whose body is not whole.
 fn report(list: &[u8], argument: usize) {
     report_answers(list, argument);
-    if list.len() % 64 != 0 {
+    if argument != SEARCHES && list.len() % 64 != 0 {
         io::write_all(STDOUT_FILENO, b", and the list ends inside a record");
     }
     io::write_all(STDOUT_FILENO, b"\n");
@@ -61,4 +64,5 @@ fn main() {
     replay(CELLS);
     replay(LAYERS);
     replay(PATHS);
+    replay(SEARCHES);
 }

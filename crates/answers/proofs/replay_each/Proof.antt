@@ -6,10 +6,10 @@ use Rattle.answers.proofs.replay_each.Statement.{statement}
 use Rattle.answers.proofs.replay_each.Tie as tie
 
 abbrev Inv-loop : tie.InvT-loop
-Inv-loop list form records tally₀ tally = (tally .answers ≤ records) × Counted (tally .answers) tally
+Inv-loop records list form count tally₀ tally = (tally .answers ≤ count) × Counted (tally .answers) tally
 
 abbrev μ-loop : tie.MeasureT-loop
-μ-loop list form records tally₀ tally = records - tally .answers
+μ-loop records list form count tally₀ tally = count - tally .answers
 
 nothing-requires : tie.Need-nothing-requires Inv-loop μ-loop
 nothing-requires c κs = search needs
