@@ -1,12 +1,13 @@
 //! Links the library: what TISHKOLAN_LIBRARY names, as bench/run sets it. Calls that it does not
 //! have are not timed.
 
-const GROUPS: [(&str, &str); 5] = [
+const GROUPS: [(&str, &str); 6] = [
     ("aggregates", "tishkolan_values_rollup"),
     ("survey", "tishkolan_survey_write"),
     ("routes", "tishkolan_route_verdict"),
     ("rings", "tishkolan_k_ring"),
     ("lines", "tishkolan_trace_line"),
+    ("searches", "tishkolan_astar_with_limit"),
 ];
 
 fn main() {

@@ -58,6 +58,10 @@ fn rust_root(bits: u64) -> u64 {
     f64::from_bits(bits).sqrt().to_bits()
 }
 
+extern "C" {
+    fn sqrt(value: f64) -> f64;
+}
+
 pub fn rows() {
     let mut state = 1;
     let mut points = Vec::new();
@@ -260,28 +264,16 @@ pub fn rows() {
         },
         |[one, other]| coord(one).manhattan_distance_to(&coord(other)) as u64,
     );
-    row(
-        "square_root, small, streamed",
-        &small,
-        library_root,
-        rust_root,
-    );
-    row(
-        "square_root, small, chained",
-        &small,
-        chained(library_root),
-        chained(rust_root),
-    );
-    row(
-        "square_root, to 2^64, streamed",
-        &wide,
-        library_root,
-        rust_root,
-    );
-    row(
-        "square_root, to 2^64, chained",
-        &wide,
-        chained(library_root),
-        chained(rust_root),
-    );
+    // Rust's root is one instruction in the loop; C's is a call, as the library's is.
+    let called: unsafe extern "C" fn(f64) -> f64 = black_box(sqrt);
+    let c_root = |bits: u64| unsafe { called(f64::from_bits(bits)) }.to_bits();
+    for (inputs, which) in [(&small, "small"), (&wide, "to 2^64")] {
+        let name = format!("square_root, {which}, streamed");
+        row(&name, inputs, library_root, rust_root);
+        row("  beside C's sqrt", inputs, library_root, c_root);
+        let name = format!("square_root, {which}, chained");
+        row(&name, inputs, chained(library_root), chained(rust_root));
+        let name = "  beside C's sqrt";
+        row(name, inputs, chained(library_root), chained(c_root));
+    }
 }

@@ -79,6 +79,20 @@ pub struct LengthAnswer {
     pub length: u64,
 }
 
+#[repr(C)]
+#[derive(Clone, Copy)]
+pub struct SearchAnswer {
+    pub refusal: Refusal,
+    pub cells: u64,
+    pub cost: u64,
+    pub expansions: u64,
+    pub limit: u64,
+    pub start_high: u64,
+    pub start_low: u64,
+    pub goal_high: u64,
+    pub goal_low: u64,
+}
+
 #[rustfmt::skip]
 extern "C" {
     pub fn tishkolan_square_root(bits: u64) -> BitsAnswer;
@@ -112,4 +126,5 @@ extern "C" {
 
     pub fn tishkolan_k_ring(center: *const u8, center_length: usize, k: u64, known: usize, waiting: usize, workspace: *mut u8, workspace_length: usize, output: *mut u8, output_length: usize) -> CountAnswer;
     pub fn tishkolan_trace_line(start: *const u8, start_length: usize, end: *const u8, end_length: usize, output: *mut u8, output_length: usize) -> CountAnswer;
+    pub fn tishkolan_astar_with_limit(start: *const u8, start_length: usize, goal: *const u8, goal_length: usize, flags: *const u8, flags_length: usize, flags_count: usize, rule: u32, limit: u64, known: usize, waiting: usize, known_workspace: *mut u8, known_workspace_length: usize, waiting_workspace: *mut u8, waiting_workspace_length: usize, output: *mut u8, output_length: usize) -> SearchAnswer;
 }

@@ -2,12 +2,15 @@
 //! the same inputs, in turn, in one run. Prints nanoseconds per call and the library's time over the
 //! Rust's. The two must give the same answers.
 //!
-//!   bench [cells] [layers] [aggregates] [survey] [routes] [rings] [lines]    those alone
+//!   bench [cells] [layers] [aggregates] [survey] [routes] [rings] [lines] [searches]    those alone
 
 #[cfg(aggregates)]
 mod aggregates;
 mod cells;
-#[cfg_attr(not(all(aggregates, survey, routes, rings, lines)), allow(dead_code))]
+#[cfg_attr(
+    not(all(aggregates, survey, routes, rings, lines, searches)),
+    allow(dead_code)
+)]
 mod face;
 mod layers;
 #[cfg(lines)]
@@ -16,6 +19,8 @@ mod lines;
 mod rings;
 #[cfg(routes)]
 mod routes;
+#[cfg(searches)]
+mod searches;
 #[cfg(survey)]
 mod survey;
 mod timing;
@@ -55,13 +60,20 @@ mod lines {
     }
 }
 
+#[cfg(not(searches))]
+mod searches {
+    pub fn rows() {
+        println!("searches: not in this library");
+    }
+}
+
 fn main() {
     let words: Vec<String> = std::env::args().skip(1).collect();
     println!(
         "{:38} {:>11} {:>11} {:>8} {:>11}",
         "ns per call", "library", "Rust", "ratio", "of it test"
     );
-    let groups: [(&str, fn()); 7] = [
+    let groups: [(&str, fn()); 8] = [
         ("cells", cells::rows),
         ("layers", layers::rows),
         ("aggregates", aggregates::rows),
@@ -69,6 +81,7 @@ fn main() {
         ("routes", routes::rows),
         ("rings", rings::rows),
         ("lines", lines::rows),
+        ("searches", searches::rows),
     ];
     for (name, rows) in groups {
         if words.is_empty() || words.iter().any(|word| word == name) {

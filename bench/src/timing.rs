@@ -1,5 +1,6 @@
 //! How two calls are timed beside each other: in turn, in one run, the best of some rounds, by the
-//! clock on the wall; a round is short, so that the best one was not interrupted.
+//! clock on the wall; a round is short, so that the best one was not interrupted. A call that takes a
+//! round or longer is timed by how long its thread ran, since it is interrupted where others run.
 
 use std::hint::black_box;
 use std::sync::OnceLock;
@@ -62,6 +63,9 @@ impl<State, Ready: FnMut(&mut State), Calls: FnMut(&mut State) -> u64> Side<Stat
 
     /// The nanoseconds of the calls once.
     fn pass(&mut self, repeat: usize) -> f64 {
+        if repeat == 1 {
+            return self.long_pass();
+        }
         let mut spent = Duration::ZERO;
         for _ in 0..repeat {
             (self.ready)(&mut self.state);
@@ -72,9 +76,29 @@ impl<State, Ready: FnMut(&mut State), Calls: FnMut(&mut State) -> u64> Side<Stat
         spent.as_nanos() as f64 / repeat as f64 - clock()
     }
 
-    fn repeats(&mut self) -> usize {
-        ((ROUND_NANOSECONDS / self.pass(1).max(1.0)) as usize).clamp(1, 10_000)
+    fn long_pass(&mut self) -> f64 {
+        (self.ready)(&mut self.state);
+        let begin = ran();
+        black_box((self.calls)(&mut self.state));
+        (ran() - begin).as_nanos() as f64
     }
+
+    fn repeats(&mut self) -> usize {
+        let once = (0..3).map(|_| self.pass(2)).fold(f64::MAX, f64::min);
+        ((ROUND_NANOSECONDS / once.max(1.0)) as usize).clamp(1, 10_000)
+    }
+}
+
+/// How long this thread has run.
+fn ran() -> Duration {
+    const THREAD_CPUTIME: i32 = 3;
+    extern "C" {
+        fn clock_gettime(clock: i32, time: *mut [i64; 2]) -> i32;
+    }
+    let mut time = [0; 2];
+    let failed = unsafe { clock_gettime(THREAD_CPUTIME, &mut time) };
+    assert_eq!(failed, 0);
+    Duration::new(time[0] as u64, time[1] as u32)
 }
 
 /// The nanoseconds that looking at the clock adds, at best.
