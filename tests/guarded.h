@@ -16,6 +16,7 @@
 #include <stdlib.h>
 #include <string.h>
 #include <sys/mman.h>
+#include <sys/time.h>
 #include <unistd.h>
 
 #include "../include/tishkolan.h"
@@ -38,7 +39,7 @@ static void (*tell_more)(void);
 
 static void on_fault(int signal)
 {
-    printf("signal %d (%s) in %s\n", signal, signal == SIGALRM ? "the call does not end" : "a fault", doing);
+    printf("signal %d (%s) in %s\n", signal, signal == SIGVTALRM ? "the call does not end" : "a fault", doing);
     if (tell_more != NULL)
         tell_more();
     fflush(stdout);
@@ -47,7 +48,7 @@ static void on_fault(int signal)
 
 static inline void lay_guards(void)
 {
-    const int signals[] = {SIGSEGV, SIGBUS, SIGILL, SIGFPE, SIGABRT, SIGALRM};
+    const int signals[] = {SIGSEGV, SIGBUS, SIGILL, SIGFPE, SIGABRT, SIGVTALRM};
 
     for (size_t place = 0; place < sizeof signals / sizeof signals[0]; place++)
         signal(signals[place], on_fault);
@@ -61,6 +62,14 @@ static inline void lay_guards(void)
         }
         slot[place].pages = whole + PAGE;
     }
+}
+
+/* From now on so many seconds of this program's own time may pass, and no more: a call that does not end is a fault. */
+static inline void must_end_within(int seconds)
+{
+    const struct itimerval time = {{0, 0}, {seconds, 0}};
+
+    setitimer(ITIMER_VIRTUAL, &time, NULL);
 }
 
 /* The strip beside the buffer, which is not on the heap. */

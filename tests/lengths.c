@@ -844,7 +844,7 @@ int main(int words, char **word)
     for (size_t place = 0; place < sizeof all / sizeof all[0]; place++) {
         current = &all[place];
         doing = current->name;
-        alarm(600); /* a call that does not end is a fault */
+        must_end_within(300);
         for (placing where = from; where <= to; where++) {
             lengths(where);
             numbers(where);
