@@ -1,9 +1,9 @@
 //! Searches of about 10, 400, 3,000 and 13,000 expansions beside the Rust's, on an open map, on an
-//! open map with a full layer elsewhere, and around a wall. On these maps both find the same cost and
+//! open map with a layer elsewhere, and around a wall. On these maps both find the same cost and
 //! close as many cells, though the Rust breaks ties otherwise: that is tested first. Once with rooms
 //! that the search just fills and once with the largest that may be named: the library wipes both
-//! workspaces. What that takes stands at the end of the line, as the time of a search from a cell to
-//! itself in the same workspaces; the line below has the same bytes wiped by Rust's `fill`.
+//! workspaces. What that takes stands behind the ratio, as the time of a search from a cell to itself
+//! in the same workspaces, and behind it that of a plain fill of as many bytes.
 //! Then what an expansion takes, of searches that a limit stops with more and more known cells.
 
 #![allow(deprecated)]
