@@ -15,6 +15,9 @@
  * the same time, each with its own buffers.
  *
  * Refusals are named in the order in which they are tested: the first that fits is given.
+ *
+ * Lines that are indented by five are examples. One after the other they are one program, which the
+ * tests compile and run; what it prints stands behind //.
  */
 #ifndef TISHKOLAN_H
 #define TISHKOLAN_H
@@ -141,7 +144,7 @@ static inline double tishkolan_double_of(uint64_t bits)
  * Anything else (-0.0, fractions, infinities, NaN) is OUT_OF_RANGE. */
 tishkolan_bits_answer tishkolan_square_root(uint64_t bits);
 
-/*     tishkolan_double_of(tishkolan_square_root(tishkolan_bits_of(2.0)).bits)  is 1.4142135623730951 */
+/*     printf("%.17g\n", tishkolan_double_of(tishkolan_square_root(tishkolan_bits_of(2.0)).bits)); // 1.4142135623730951 */
 
 /* ---- lattice: points by their coordinates.
  * A point of the lattice has coordinates that are all even or all odd; a call on
@@ -192,7 +195,8 @@ tishkolan_number_answer tishkolan_lattice_manhattan_distance(int32_t ax, int32_t
 
 /*     tishkolan_coord_answer at = tishkolan_physical_to_lattice(
  *         tishkolan_bits_of(0.9), tishkolan_bits_of(1.2), tishkolan_bits_of(0.8), 0);
- *     if (at.refusal.number == TISHKOLAN_ANSWERED) ...                        at is (1, 1, 1) */
+ *     if (at.refusal.number == TISHKOLAN_ANSWERED)
+ *         printf("(%d, %d, %d)\n", at.x, at.y, at.z); // (1, 1, 1) */
 
 /* ---- cells: 16 bytes.
  * A call that takes a cell of another length is BAD_LIST before anything else; one that
@@ -258,9 +262,11 @@ tishkolan_bits_answer tishkolan_cell_distance(const uint8_t *first, size_t first
 tishkolan_number_answer tishkolan_cell_manhattan_distance(const uint8_t *first, size_t first_length,
                                                           const uint8_t *second, size_t second_length);
 
-/*     uint8_t cell[16], near[14 * 16];
- *     tishkolan_cell_from_coords(0, 3, 1, 1, 1, cell, sizeof cell);           frame 0, resolution 3
- *     tishkolan_cell_neighbors(cell, sizeof cell, near, sizeof near); */
+/*     uint8_t struck[16], from[16], to[16];
+ *     tishkolan_cell_from_coords(0, 3, at.x, at.y, at.z, struck, sizeof struck); // frame 0, resolution 3
+ *     tishkolan_cell_from_coords(0, 3, 0, 0, 0, from, sizeof from);
+ *     tishkolan_cell_from_coords(0, 3, 2, 2, 0, to, sizeof to);
+ *     printf("%.3f\n", tishkolan_double_of(tishkolan_cell_distance(from, sizeof from, struck, sizeof struck).bits)); // 1.732 */
 
 /* ---- layers: a table of records that you lend, and how many of them are in use.
  * A flag record is a cell and 32 bits, a value record a cell and the 64 bits of a double,
@@ -343,9 +349,11 @@ void tishkolan_values_clear(uint8_t *table, size_t table_length);
 tishkolan_count_answer tishkolan_values_list(const uint8_t *table, size_t table_length, size_t count,
                                              uint8_t *out, size_t out_length);
 
-/*     uint8_t table[TISHKOLAN_MOST_CELLS * TISHKOLAN_FLAG_RECORD];
- *     size_t count = 0;
- *     count = tishkolan_flags_set(table, sizeof table, count, cell, sizeof cell, TISHKOLAN_BLOCKED).count; */
+/*     static uint8_t flags[TISHKOLAN_MOST_CELLS * TISHKOLAN_FLAG_RECORD];
+ *     static uint8_t values[TISHKOLAN_MOST_CELLS * TISHKOLAN_VALUE_RECORD];
+ *     size_t flags_count = 0, values_count = 0;
+ *     flags_count = tishkolan_flags_set(flags, sizeof flags, flags_count, struck, 16, TISHKOLAN_BLOCKED).count;
+ *     values_count = tishkolan_values_set(values, sizeof values, values_count, struck, 16, tishkolan_bits_of(8.5)).count; */
 
 /* ---- aggregates of a value layer */
 
@@ -372,10 +380,17 @@ tishkolan_count_answer tishkolan_values_rollup(const uint8_t *fine, size_t fine_
                                                uint8_t *coarse, size_t coarse_length, size_t coarse_count);
 
 /*     tishkolan_bits_answer least = tishkolan_values_aggregate(
- *         values, sizeof values, count, cells, 8 * 16, TISHKOLAN_MIN);
- *     if (least.refusal.number == TISHKOLAN_ANSWERED && tishkolan_double_of(least.bits) < 8.0) ... */
+ *         values, sizeof values, values_count, struck, 16, TISHKOLAN_MIN); // of a list of one cell
+ *     if (least.refusal.number == TISHKOLAN_ANSWERED)
+ *         printf("%.1f mm\n", tishkolan_double_of(least.bits)); // 8.5 mm
+ *     static uint8_t plates[TISHKOLAN_MOST_CELLS * TISHKOLAN_VALUE_RECORD];
+ *     size_t plates_count = tishkolan_values_rollup(
+ *         values, sizeof values, values_count, TISHKOLAN_MIN, plates, sizeof plates, 0).count;
+ *     printf("%zu plate\n", plates_count); // 1 plate */
 
 /* ---- survey files */
+
+enum { TISHKOLAN_FILE_BYTES = 16 + TISHKOLAN_MOST_CELLS * (TISHKOLAN_FLAG_RECORD + TISHKOLAN_VALUE_RECORD) }; /* of the longest */
 
 /* The counts of both layers after the call: where it refuses, those that were given. */
 typedef struct {
@@ -401,10 +416,15 @@ tishkolan_length_answer tishkolan_survey_write(const uint8_t *flags, size_t flag
                                                const uint8_t *values, size_t values_length, size_t values_count,
                                                uint8_t *out, size_t out_length);
 
-/*     tishkolan_load_answer load = tishkolan_survey_load(file, length, flags, sizeof flags, flags_count,
+/*     static uint8_t file[TISHKOLAN_FILE_BYTES];
+ *     size_t length = tishkolan_survey_write(flags, sizeof flags, flags_count, values, sizeof values, values_count,
+ *                                            file, sizeof file).length;
+ *     file[5] = 2; // a count of values that is not the file's
+ *     tishkolan_load_answer load = tishkolan_survey_load(file, length, flags, sizeof flags, flags_count,
  *                                                        values, sizeof values, values_count);
- *     flags_count = load.flags, values_count = load.values;                   also where it refused
- *     if (load.refusal.number == TISHKOLAN_BAD_FILE) printf("byte %llu", (unsigned long long)load.place); */
+ *     flags_count = load.flags, values_count = load.values; // right also where it refused
+ *     if (load.refusal.number == TISHKOLAN_BAD_FILE)
+ *         printf("byte %u: %s\n", (unsigned)load.place, tishkolan_refusal_name(load.refusal.number)); // byte 60: the file is no survey file */
 
 /* ---- lists of cells, 16 bytes each, at the front of a buffer. The count is how many they are, and 0
  * where the call refuses. */
@@ -417,8 +437,8 @@ tishkolan_count_answer tishkolan_trace_line(const uint8_t *start, size_t start_l
                                             const uint8_t *end, size_t end_length,
                                             uint8_t *output, size_t output_length);
 
-/*     uint8_t line[64 * 16];
- *     uint64_t cells = tishkolan_trace_line(from, 16, to, 16, line, sizeof line).count; */
+/*     uint8_t line[8 * 16];
+ *     printf("%u cells\n", (unsigned)tishkolan_trace_line(from, 16, to, 16, line, sizeof line).count); // 3 cells */
 
 /* ---- rings: the cells around a cell, breadth first, from neighbour to neighbour.
  * The walk takes place in a workspace that you lend, which may hold anything. You name the room for
@@ -447,7 +467,8 @@ tishkolan_count_answer tishkolan_k_shell(const uint8_t *center, size_t center_le
                                          uint8_t *out, size_t out_length);
 
 /*     static uint8_t workspace[TISHKOLAN_RING_BYTES(15)], ring[15 * 16];
- *     tishkolan_k_ring(cell, 16, 1, 15, 15, workspace, sizeof workspace, ring, sizeof ring); */
+ *     tishkolan_count_answer around = tishkolan_k_ring(from, 16, 1, 15, 15, workspace, sizeof workspace, ring, sizeof ring);
+ *     printf("%u cells\n", (unsigned)around.count); // 15 cells */
 
 /* ---- the route checker.
  * A route is a list of cells, 16 bytes each; its cost is the sum of its steps as doubles, from 0.0,
@@ -506,9 +527,14 @@ uint32_t tishkolan_route_choice(const uint8_t *sent, size_t sent_length,
                                 const uint8_t *flags, size_t flags_length, size_t flags_count,
                                 uint32_t rule);
 
-/*     uint32_t verdict = tishkolan_route_verdict(route, length, here, 16, goal, 16, cost,
+/*     uint64_t cost = tishkolan_bits_of(2 * 1.7320508075688772);
+ *     uint32_t verdict = tishkolan_route_verdict(line, 3 * 16, from, 16, to, 16, cost,
  *                                                flags, sizeof flags, flags_count, TISHKOLAN_AVOIDING);
- *     if (verdict != TISHKOLAN_ACCEPTED) puts(tishkolan_verdict_name(verdict));     and hover */
+ *     puts(tishkolan_verdict_name(verdict)); // accepted
+ *     uint32_t choice = tishkolan_route_choice(line, 2 * 16, from, 16, to, 16, cost,       // cut short, and
+ *                                              line, 3 * 16, from, 16, to, 16, cost,       // whole
+ *                                              flags, sizeof flags, flags_count, TISHKOLAN_AVOIDING);
+ *     puts(choice == TISHKOLAN_HOMING ? "homing" : "not homing"); // homing */
 
 /* ---- the search.
  * A* from start to goal, in the Rust's order, by the Euclidean distance to the goal: under the rule
@@ -560,12 +586,12 @@ tishkolan_search_answer tishkolan_astar(const uint8_t *start, size_t start_lengt
                                         uint8_t *waiting_workspace, size_t waiting_workspace_length,
                                         uint8_t *out, size_t out_length);
 
-/*     enum { ROOM = 4096 };
- *     static uint8_t known[TISHKOLAN_SEARCH_KNOWN_BYTES(ROOM)], waiting[TISHKOLAN_SEARCH_WAITING_BYTES(ROOM)];
- *     static uint8_t route[256 * 16];
+/*     enum { ROOM = 256 };
+ *     static uint8_t known[TISHKOLAN_SEARCH_KNOWN_BYTES(ROOM)], waiting[TISHKOLAN_SEARCH_WAITING_BYTES(ROOM)], route[ROOM * 16];
  *     tishkolan_search_answer found = tishkolan_astar(from, 16, to, 16, flags, sizeof flags, flags_count,
  *         TISHKOLAN_AVOIDING, ROOM, ROOM, known, sizeof known, waiting, sizeof waiting, route, sizeof route);
- *     if (found.refusal.number == TISHKOLAN_ANSWERED) ...          found.cells cells, found.cost its bits */
+ *     if (found.refusal.number == TISHKOLAN_ANSWERED)
+ *         printf("%u cells, cost %.3f\n", (unsigned)found.cells, tishkolan_double_of(found.cost)); // 3 cells, cost 3.464 */
 
 #ifdef __cplusplus
 }
