@@ -382,10 +382,11 @@ fn advance(
             }
             let g = rows::g_at(workspace, plan.known, sizes.known, row);
             rows::close_at(workspace, plan.known, sizes.known, row);
+            let counted = sizes.count + 1;
             let closed = Sizes {
                 known: sizes.known,
                 waiting: left,
-                count: sizes.count + 1,
+                count: counted,
             };
             enter(workspace, heap, flags, count, plan, closed, row, g)
         }

@@ -64,8 +64,8 @@ close-at-requires c κs =
     let entry = at-look .before .before .before .before .before .before .before .before .before .before .before .before .before in
     (entry .pre .0 .rows, (rw (at-row .row .given .1) at (at-look .look .ensures)) .0)
 
-add-t33 : tie.Need-add-t33
-add-t33 c =
+add-counted : tie.Need-add-counted
+add-counted c =
     let entry = c .before .before .before .before .before .before .before .before .before .before .before .before .before .before .before .before .before .before .before .before .before .before .before .before .before .before in
     omega (arith, count-small (entry .pre .0))
 
@@ -139,7 +139,7 @@ advance-spec =
     returns-2
     g-at-requires
     close-at-requires
-    add-t33
+    add-counted
     enter-requires
     enum-told
     same-length-3
