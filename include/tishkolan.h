@@ -1,14 +1,15 @@
 /* Tishkolan: cells of a body-centred cubic lattice, each call proved.
  *
  * Every call takes all numbers, bytes and lengths, ends, and answers or refuses. It keeps nothing
- * between calls, allocates nothing and calls nothing; what it needs, you lend.
+ * between calls, allocates nothing and calls nothing but memcpy and memset; what it needs, you lend.
  *
  * A cell is 16 bytes, big-endian: z, y, x (32 bits each, two's complement), then
  * reserved (4 bits), flags (8), exponent (4), resolution (8), frame (8).
  * A double crosses as its 64 bits: see tishkolan_bits_of and tishkolan_double_of.
  * A buffer is a pointer and a length, in elements; NULL with length 0 is fine.
  * A call that answers into a buffer fills its front and leaves the rest as it was;
- * a call that refuses leaves all of it as it was. Buffers that are const are only read.
+ * a call that refuses leaves all of it as it was. Buffers that are const are only read. Workspaces
+ * are told of with rings and the search: they are left zero.
  *
  * What is assumed of you: a buffer is as long as you say, the buffers of one call do not overlap
  * (those that are const may), and nobody changes a buffer while the call runs. Threads may call at
