@@ -8,12 +8,11 @@ use crate::Tally;
 use cell::twos;
 use tishkolan::aggregates;
 use tishkolan::layers;
-use tishkolan::told;
-use tishkolan::told::BitsTold;
-use tishkolan::told::CountTold;
-use tishkolan::told::KeptTold;
-use tishkolan::told::NumberTold;
-use tishkolan::told::RefusalTold;
+use told::BitsTold;
+use told::CountTold;
+use told::KeptTold;
+use told::NumberTold;
+use told::RefusalTold;
 
 // How many records of each table are in use.
 struct Counts {

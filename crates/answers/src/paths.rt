@@ -7,7 +7,7 @@ use crate::Form;
 use crate::Tally;
 use tishkolan::paths;
 use tishkolan::rings;
-use tishkolan::told::CountTold;
+use told::CountTold;
 
 // The most bytes of an output and of a workspace.
 const OUTPUT: usize = 3200;

@@ -8,7 +8,7 @@ ghost use Rattle.answers.specs.Searches.{recordBytes};
 use crate::Form;
 use crate::Tally;
 use tishkolan::searches;
-use tishkolan::told::SearchTold;
+use told::SearchTold;
 
 // The most bytes of an output and of the two workspaces.
 const OUTPUT: usize = 512;

@@ -1,4 +1,3 @@
-pub mod Refusals
 pub mod Writing
 pub mod Places
 pub mod Given

@@ -4,8 +4,8 @@ use mathlib.Core.Path.{_≡_, sym, ap, _∙_}
 use mathlib.Core.List.{List}
 use denote.Ref.{at-last}
 use Rattle.refusal.specs.OneAnswer.{OneAnswer, OneExit}
-use Rattle.tishkolan.specs.declared.told.RefusalTold.{RefusalTold}
-use Rattle.tishkolan.specs.Told.{Filled, filled}
+use Rattle.told.specs.declared.RefusalTold.{RefusalTold}
+use Rattle.told.specs.Told.{Filled, filled}
 use Rattle.tishkolan.proofs.points.tishkolan_square_root.Kinds as square-root-kinds
 use Rattle.tishkolan.proofs.points.tishkolan_square_root.Reads as square-root
 use Rattle.tishkolan.proofs.points.tishkolan_parity.Kinds as parity-kinds

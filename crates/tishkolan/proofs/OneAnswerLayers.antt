@@ -51,7 +51,7 @@ use Rattle.tishkolan.proofs.surveys.tishkolan_survey_write.Kinds as sur
 use Rattle.tishkolan.proofs.surveys.tishkolan_survey_write.Reads as survey-write
 use Rattle.refusal.specs.OneAnswer.{OneAnswer, OneExit}
 use Rattle.layer.specs.ChangeLaws.{same-said, same-bytes}
-use Rattle.tishkolan.specs.Surveys.{LoadingTold}
+use Rattle.told.specs.Surveys.{LoadingTold}
 
 -- ---- the flags of a cell
 

@@ -6,7 +6,7 @@ use Rattle.tishkolan.proofs.rings.tishkolan_k_ring.Reads as ring
 use Rattle.tishkolan.proofs.rings.tishkolan_k_shell.Kinds as shell-kinds
 use Rattle.tishkolan.proofs.rings.tishkolan_k_shell.Reads as shell
 use Rattle.refusal.specs.OneAnswer.{OneAnswer, OneExit}
-use Rattle.tishkolan.specs.Rings.{RingTold}
+use Rattle.told.specs.Rings.{RingTold}
 
 pub ring-one : OneAnswer 3 ring-kinds.ps ring-kinds.r ring.Post
 ring-one κs a z z′ e e′ p q = ap (λ (g : RingTold). g .told) (p ∙ sym q)

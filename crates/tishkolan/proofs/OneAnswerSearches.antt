@@ -6,7 +6,7 @@ use Rattle.tishkolan.proofs.searches.tishkolan_astar.Reads as astar
 use Rattle.tishkolan.proofs.searches.tishkolan_astar_with_limit.Kinds as limited-kinds
 use Rattle.tishkolan.proofs.searches.tishkolan_astar_with_limit.Reads as limited
 use Rattle.refusal.specs.OneAnswer.{OneAnswer, OneExit}
-use Rattle.tishkolan.specs.Searches.{SearchingTold}
+use Rattle.told.specs.Searches.{SearchingTold}
 
 pub astar-one : OneAnswer 6 astar-kinds.ps astar-kinds.r astar.Post
 astar-one κs a z z′ e e′ p q = ap (λ (s : SearchingTold). s .told) (p ∙ sym q)

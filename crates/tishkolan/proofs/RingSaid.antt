@@ -4,9 +4,9 @@ use mathlib.Core.List.{List}
 use Prim.Native.Nat.{ℕ}
 use Rattle.layer.specs.declared.CountAnswer.{CountAnswer}
 use Rattle.ring.specs.Ring.{Ringed, ringed}
-use Rattle.tishkolan.specs.declared.told.CountTold.{CountTold}
-use Rattle.tishkolan.specs.Layers.{ofCount}
-use Rattle.tishkolan.specs.Rings.{ringTold, ofRing}
+use Rattle.told.specs.declared.CountTold.{CountTold}
+use Rattle.told.specs.Layers.{ofCount}
+use Rattle.told.specs.Rings.{ringTold, ofRing}
 
 pub ring-said : {a : CountAnswer} {t : CountTold} {w l : List ℕ} {g : Ringed} → ringed a w l ≡ g → t ≡ ofCount 0 a → ringTold t w l ≡ ofRing g
 ring-said {w = w} {l = l} e told = ap (λ (t : CountTold). ringTold t w l) told ∙ ap ofRing e

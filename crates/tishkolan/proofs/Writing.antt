@@ -17,8 +17,8 @@ use Rattle.refusal.specs.declared.Room.the-variants.{Output}
 use Rattle.refusal.specs.declared.Outcome.{Outcome}
 use Rattle.refusal.specs.declared.Outcome.the-variants.{Answered, Refused}
 use Rattle.layer.specs.Bytes.{flatMap-append}
-use Rattle.tishkolan.specs.declared.told.RefusalTold.{RefusalTold}
-use Rattle.tishkolan.specs.Told.{answered, toldOf, filled, fronted, fill}
+use Rattle.told.specs.declared.RefusalTold.{RefusalTold}
+use Rattle.told.specs.Told.{answered, toldOf, filled, fronted, fill}
 
 module _ {A B : Type 0} (f : A → List B) where
   flatMap-one : (a : A) → flatMap f (a ∷ []) ≡ f a

@@ -18,10 +18,10 @@ use Rattle.layer.specs.declared.CountAnswer.{CountAnswer}
 use Rattle.layer.specs.declared.CountAnswer.the-variants as count
 use Rattle.layer.specs.Changes.{Changed, changed}
 use Rattle.rollup.specs.Rollup.{rollupIn}
-use Rattle.tishkolan.specs.declared.told.BitsTold.{BitsTold}
+use Rattle.told.specs.declared.BitsTold.{BitsTold}
 use Rattle.tishkolan.specs.declared.aggregates.Asked.{Asked}
 use Rattle.tishkolan.specs.declared.aggregates.Asked.the-variants.{For, Unknown}
-use Rattle.tishkolan.specs.Told.{bitsTold, noBits}
+use Rattle.told.specs.Told.{bitsTold, noBits}
 
 -- in the order of their numbers
 abbrev pub aggregations : List Asked

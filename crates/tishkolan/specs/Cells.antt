@@ -20,12 +20,12 @@ use Rattle.cell.specs.Bytes.{cellBytes, fromBytesOf}
 use Rattle.distance.specs.Distance.{distanceOf}
 use Rattle.tishkolan.specs.declared.cells.PairAnswer.{PairAnswer}
 use Rattle.tishkolan.specs.declared.cells.PairAnswer.the-variants as pair
-use Rattle.tishkolan.specs.declared.told.RefusalTold.{RefusalTold}
-use Rattle.tishkolan.specs.declared.told.NumberTold.{NumberTold}
-use Rattle.tishkolan.specs.declared.told.BitsTold.{BitsTold}
-use Rattle.tishkolan.specs.declared.told.CoordTold.{CoordTold}
-use Rattle.tishkolan.specs.declared.told.FieldsTold.{FieldsTold}
-use Rattle.tishkolan.specs.Told.{Filled, filled, fill, answered, toldOf, numberTold, noNumber, ofNumber, noBits, ofDistance, ofCoord}
+use Rattle.told.specs.declared.RefusalTold.{RefusalTold}
+use Rattle.told.specs.declared.NumberTold.{NumberTold}
+use Rattle.told.specs.declared.BitsTold.{BitsTold}
+use Rattle.told.specs.declared.CoordTold.{CoordTold}
+use Rattle.told.specs.declared.FieldsTold.{FieldsTold}
+use Rattle.told.specs.Told.{Filled, filled, fill, answered, toldOf, numberTold, noNumber, ofNumber, noBits, ofDistance, ofCoord}
 
 -- ---- a cell that C hands over
 

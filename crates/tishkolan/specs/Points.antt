@@ -8,8 +8,8 @@ use Rattle.refusal.specs.declared.Coord.{Coord}
 use Rattle.refusal.specs.declared.Refusal.the-variants.{OutOfRange}
 use Rattle.lattice.specs.declared.Parity.the-variants.{Even, Odd}
 use Rattle.lattice.specs.Lattice.{oppositeOf, neighborsOf, childrenOf}
-use Rattle.tishkolan.specs.declared.told.NumberTold.{NumberTold}
-use Rattle.tishkolan.specs.Told.{Filled, fill, numberTold, noNumber, parityNumber}
+use Rattle.told.specs.declared.NumberTold.{NumberTold}
+use Rattle.told.specs.Told.{Filled, fill, numberTold, noNumber, parityNumber}
 
 -- of the parity that a number stands for; a number that stands for none is out of range
 abbrev pub oppositeTold : ℕ → NumberTold

@@ -2,16 +2,14 @@
 ghost use mathlib.Core.Path.{_≡_};
 ghost use Rattle.layer.specs.Changes.{changed, saying};
 ghost use Rattle.tishkolan.specs.Aggregates.{aggregationOf, ofAggregated, ofAggregate, noAggregation, aggregateTold, noRollup, rollupAsked};
-ghost use Rattle.tishkolan.specs.Layers.{ofCount};
-use crate::layers;
-use crate::told;
-use crate::told::BitsTold;
-use crate::told::CountTold;
+ghost use Rattle.told.specs.Layers.{ofCount};
 use aggregate::AggregateAnswer;
 use aggregate::Aggregated;
 use aggregate::Aggregation;
 use layer::CountAnswer;
 use refusal::Refusal;
+use told::BitsTold;
+use told::CountTold;
 
 // What C asks for.
 enum Asked {
@@ -120,5 +118,5 @@ pub extern "C" fn tishkolan_values_rollup(
 ) -> CountTold
     ensures { λ t. ⌜ changed t (now (coarse .exit)) ≡ saying (ofCount given) (rollupAsked (now (fine .entry)) count how (now (coarse .entry))) ⌝ }
 {
-    layers::of_count(given, rollup_asked(fine, count, how, coarse))
+    told::layers::of_count(given, rollup_asked(fine, count, how, coarse))
 }

@@ -3,14 +3,8 @@ ghost use mathlib.Core.Path.{_≡_};
 ghost use Prim.Native.Nat.{_≤_};
 ghost use lib.ListN.{length};
 ghost use Rattle.lattice.specs.Lattice.{at};
-ghost use Rattle.tishkolan.specs.Told.{filled, fronted};
+ghost use Rattle.told.specs.Told.{filled, fronted};
 ghost use Rattle.tishkolan.specs.Cells.{pairOf, orderNumber, fillCell, cellsBytes, newTold, neighborsTold, childrenTold, parentTold, ancestorTold, noFields, fieldsOf, fieldsTold, latticeCoordTold, isPlainTold, compareTold, ofBetween, betweenTold, distanceTold, manhattanTold};
-use crate::told;
-use crate::told::BitsTold;
-use crate::told::CoordTold;
-use crate::told::FieldsTold;
-use crate::told::NumberTold;
-use crate::told::RefusalTold;
 use cell::Between;
 use cell::CellAnswer;
 use cell::Order;
@@ -19,6 +13,11 @@ use refusal::Cell;
 use refusal::Outcome;
 use refusal::Refusal;
 use refusal::Room;
+use told::BitsTold;
+use told::CoordTold;
+use told::FieldsTold;
+use told::NumberTold;
+use told::RefusalTold;
 
 // The two cells that C hands over.
 struct Pair {

@@ -3,107 +3,10 @@ ghost use mathlib.Core.Path.{_≡_};
 ghost use Prim.Native.Nat.{_-_};
 ghost use Rattle.layer.specs.Calls.{heldIn, ofFlags, ofValue, ofContains, countIn};
 ghost use Rattle.layer.specs.Changes.{changed, saying, setIn, removeIn, clearIn, listIn, emptyIn};
-ghost use Rattle.tishkolan.specs.Layers.{ofCount, keptTold, missingTold, noKept, ofFlagsKept, ofValueKept, ofContained, ofEmpty};
-use crate::told;
-use crate::told::CountTold;
-use crate::told::KeptTold;
-use crate::told::NumberTold;
-use layer::ContainsAnswer;
-use layer::CountAnswer;
-use layer::EmptyAnswer;
-use layer::FlagsAnswer;
-use layer::ValueAnswer;
-use refusal::Refusal;
-
-pub fn of_count(given: usize, a: CountAnswer) -> CountTold
-    ensures { λ t. ⌜ t ≡ ofCount given a ⌝ }
-{
-    match a {
-        CountAnswer::Cells(n) => CountTold {
-            refusal: told::answered(),
-            count: n as u64,
-        },
-        CountAnswer::Refused(r) => CountTold {
-            refusal: told::told(r),
-            count: given as u64,
-        },
-    }
-}
-
-fn kept(k: u64, count: usize) -> KeptTold
-    ensures { λ t. ⌜ t ≡ keptTold k count ⌝ }
-{
-    KeptTold {
-        refusal: told::answered(),
-        found: 1,
-        kept: k,
-        count: count as u64,
-    }
-}
-
-fn missing(count: usize) -> KeptTold
-    ensures { λ t. ⌜ t ≡ missingTold count ⌝ }
-{
-    KeptTold {
-        refusal: told::answered(),
-        found: 0,
-        kept: 0,
-        count: count as u64,
-    }
-}
-
-fn no_kept(r: Refusal, count: usize) -> KeptTold
-    ensures { λ t. ⌜ t ≡ noKept r count ⌝ }
-{
-    KeptTold {
-        refusal: told::told(r),
-        found: 0,
-        kept: 0,
-        count: count as u64,
-    }
-}
-
-// The count is the given one, and what is left of it where the cell was found.
-fn of_flags_kept(given: usize, left: usize, a: FlagsAnswer) -> KeptTold
-    ensures { λ t. ⌜ t ≡ ofFlagsKept given left a ⌝ }
-{
-    match a {
-        FlagsAnswer::Flags(k) => kept(k as u64, left),
-        FlagsAnswer::Nothing => missing(given),
-        FlagsAnswer::Refused(r) => no_kept(r, given),
-    }
-}
-
-fn of_value_kept(given: usize, left: usize, a: ValueAnswer) -> KeptTold
-    ensures { λ t. ⌜ t ≡ ofValueKept given left a ⌝ }
-{
-    match a {
-        ValueAnswer::Bits(k) => kept(k, left),
-        ValueAnswer::Nothing => missing(given),
-        ValueAnswer::Refused(r) => no_kept(r, given),
-    }
-}
-
-// 1 for yes, 0 for no.
-fn of_contained(a: ContainsAnswer) -> NumberTold
-    ensures { λ t. ⌜ t ≡ ofContained a ⌝ }
-{
-    match a {
-        ContainsAnswer::Contained => told::number(1),
-        ContainsAnswer::Missing => told::number(0),
-        ContainsAnswer::Refused(r) => told::no_number(r),
-    }
-}
-
-fn of_empty(a: EmptyAnswer) -> NumberTold
-    ensures { λ t. ⌜ t ≡ ofEmpty a ⌝ }
-{
-    match a {
-        EmptyAnswer::Empty => told::number(1),
-        EmptyAnswer::Occupied => told::number(0),
-        EmptyAnswer::Refused(r) => told::no_number(r),
-    }
-}
+ghost use Rattle.told.specs.Layers.{ofCount, ofFlagsKept, ofValueKept, ofContained, ofEmpty};
+use told::CountTold;
+use told::KeptTold;
+use told::NumberTold;
 
 // A layer without cells has none to lose.
 fn one_less(count: usize) -> usize
@@ -122,7 +25,7 @@ pub extern "C" fn tishkolan_flags_set(
 ) -> CountTold
     ensures { λ t. ⌜ changed t (now (table .exit)) ≡ saying (ofCount count) (setIn 20 (now (table .entry)) count (now (cell .entry)) flags) ⌝ }
 {
-    of_count(count, layer::changes::set_flags(table, count, cell, flags))
+    told::layers::of_count(count, layer::changes::set_flags(table, count, cell, flags))
 }
 
 // The flags of a cell, if there are any.
@@ -130,7 +33,7 @@ pub extern "C" fn tishkolan_flags_set(
 pub extern "C" fn tishkolan_flags_get(table: &[u8], count: usize, cell: &[u8]) -> KeptTold
     ensures { λ t. ⌜ t ≡ ofFlagsKept count count (ofFlags (heldIn 20 (now (table .entry)) count (now (cell .entry)))) ⌝ }
 {
-    of_flags_kept(count, count, layer::get_flags(table, count, cell))
+    told::layers::of_flags_kept(count, count, layer::get_flags(table, count, cell))
 }
 
 // A cell forgotten, and what was kept of it.
@@ -138,7 +41,7 @@ pub extern "C" fn tishkolan_flags_get(table: &[u8], count: usize, cell: &[u8]) -
 pub extern "C" fn tishkolan_flags_remove(table: &mut [u8], count: usize, cell: &[u8]) -> KeptTold
     ensures { λ t. ⌜ changed t (now (table .exit)) ≡ saying (ofFlagsKept count (count - 1)) (saying ofFlags (removeIn 20 (now (table .entry)) count (now (cell .entry)))) ⌝ }
 {
-    of_flags_kept(
+    told::layers::of_flags_kept(
         count,
         one_less(count),
         layer::changes::remove_flags(table, count, cell),
@@ -150,7 +53,7 @@ pub extern "C" fn tishkolan_flags_remove(table: &mut [u8], count: usize, cell: &
 pub extern "C" fn tishkolan_flags_contains(table: &[u8], count: usize, cell: &[u8]) -> NumberTold
     ensures { λ t. ⌜ t ≡ ofContained (ofContains (heldIn 20 (now (table .entry)) count (now (cell .entry)))) ⌝ }
 {
-    of_contained(layer::contains_flags(table, count, cell))
+    told::layers::of_contained(layer::contains_flags(table, count, cell))
 }
 
 // How many cells a flag layer has.
@@ -158,7 +61,7 @@ pub extern "C" fn tishkolan_flags_contains(table: &[u8], count: usize, cell: &[u
 pub extern "C" fn tishkolan_flags_count(table: &[u8], count: usize) -> CountTold
     ensures { λ t. ⌜ t ≡ ofCount count (countIn 20 (now (table .entry)) count) ⌝ }
 {
-    of_count(count, layer::count_flags(table, count))
+    told::layers::of_count(count, layer::count_flags(table, count))
 }
 
 // Whether a flag layer has no cells.
@@ -166,7 +69,7 @@ pub extern "C" fn tishkolan_flags_count(table: &[u8], count: usize) -> CountTold
 pub extern "C" fn tishkolan_flags_is_empty(table: &[u8], count: usize) -> NumberTold
     ensures { λ t. ⌜ t ≡ ofEmpty (emptyIn 20 (now (table .entry)) count) ⌝ }
 {
-    of_empty(layer::is_empty_flags(table, count))
+    told::layers::of_empty(layer::is_empty_flags(table, count))
 }
 
 // A flag layer without cells.
@@ -182,7 +85,7 @@ pub extern "C" fn tishkolan_flags_clear(table: &mut [u8])
 pub extern "C" fn tishkolan_flags_list(table: &[u8], count: usize, out: &mut [u8]) -> CountTold
     ensures { λ t. ⌜ changed t (now (out .exit)) ≡ saying (ofCount count) (listIn 20 (now (table .entry)) count (now (out .entry))) ⌝ }
 {
-    of_count(count, layer::list_flags(table, count, out))
+    told::layers::of_count(count, layer::list_flags(table, count, out))
 }
 
 // The bits of a cell's value from now on.
@@ -195,7 +98,7 @@ pub extern "C" fn tishkolan_values_set(
 ) -> CountTold
     ensures { λ t. ⌜ changed t (now (table .exit)) ≡ saying (ofCount count) (setIn 24 (now (table .entry)) count (now (cell .entry)) bits) ⌝ }
 {
-    of_count(count, layer::changes::set_value(table, count, cell, bits))
+    told::layers::of_count(count, layer::changes::set_value(table, count, cell, bits))
 }
 
 // The bits of a cell's value, if there are any.
@@ -203,7 +106,7 @@ pub extern "C" fn tishkolan_values_set(
 pub extern "C" fn tishkolan_values_get(table: &[u8], count: usize, cell: &[u8]) -> KeptTold
     ensures { λ t. ⌜ t ≡ ofValueKept count count (ofValue (heldIn 24 (now (table .entry)) count (now (cell .entry)))) ⌝ }
 {
-    of_value_kept(count, count, layer::get_value(table, count, cell))
+    told::layers::of_value_kept(count, count, layer::get_value(table, count, cell))
 }
 
 // A cell forgotten, and what was kept of it.
@@ -211,7 +114,7 @@ pub extern "C" fn tishkolan_values_get(table: &[u8], count: usize, cell: &[u8]) 
 pub extern "C" fn tishkolan_values_remove(table: &mut [u8], count: usize, cell: &[u8]) -> KeptTold
     ensures { λ t. ⌜ changed t (now (table .exit)) ≡ saying (ofValueKept count (count - 1)) (saying ofValue (removeIn 24 (now (table .entry)) count (now (cell .entry)))) ⌝ }
 {
-    of_value_kept(
+    told::layers::of_value_kept(
         count,
         one_less(count),
         layer::changes::remove_value(table, count, cell),
@@ -223,7 +126,7 @@ pub extern "C" fn tishkolan_values_remove(table: &mut [u8], count: usize, cell: 
 pub extern "C" fn tishkolan_values_contains(table: &[u8], count: usize, cell: &[u8]) -> NumberTold
     ensures { λ t. ⌜ t ≡ ofContained (ofContains (heldIn 24 (now (table .entry)) count (now (cell .entry)))) ⌝ }
 {
-    of_contained(layer::contains_value(table, count, cell))
+    told::layers::of_contained(layer::contains_value(table, count, cell))
 }
 
 // How many cells a value layer has.
@@ -231,7 +134,7 @@ pub extern "C" fn tishkolan_values_contains(table: &[u8], count: usize, cell: &[
 pub extern "C" fn tishkolan_values_count(table: &[u8], count: usize) -> CountTold
     ensures { λ t. ⌜ t ≡ ofCount count (countIn 24 (now (table .entry)) count) ⌝ }
 {
-    of_count(count, layer::count_values(table, count))
+    told::layers::of_count(count, layer::count_values(table, count))
 }
 
 // Whether a value layer has no cells.
@@ -239,7 +142,7 @@ pub extern "C" fn tishkolan_values_count(table: &[u8], count: usize) -> CountTol
 pub extern "C" fn tishkolan_values_is_empty(table: &[u8], count: usize) -> NumberTold
     ensures { λ t. ⌜ t ≡ ofEmpty (emptyIn 24 (now (table .entry)) count) ⌝ }
 {
-    of_empty(layer::is_empty_values(table, count))
+    told::layers::of_empty(layer::is_empty_values(table, count))
 }
 
 // A value layer without cells.
@@ -255,5 +158,5 @@ pub extern "C" fn tishkolan_values_clear(table: &mut [u8])
 pub extern "C" fn tishkolan_values_list(table: &[u8], count: usize, out: &mut [u8]) -> CountTold
     ensures { λ t. ⌜ changed t (now (out .exit)) ≡ saying (ofCount count) (listIn 24 (now (table .entry)) count (now (out .entry))) ⌝ }
 {
-    of_count(count, layer::list_values(table, count, out))
+    told::layers::of_count(count, layer::list_values(table, count, out))
 }

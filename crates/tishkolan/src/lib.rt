@@ -9,4 +9,3 @@ pub mod rings;
 pub mod routes;
 pub mod searches;
 pub mod surveys;
-pub mod told;

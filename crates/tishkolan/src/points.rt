@@ -8,18 +8,17 @@ ghost use Rattle.root.specs.Root.{rootBitsOf};
 ghost use Rattle.lattice.specs.Lattice.{at, isLatticePoint, parityOf, parentOf, manhattanOf};
 ghost use Rattle.snap.specs.Snap.{point, snapOf, physicalBitsOf};
 ghost use Rattle.distance.specs.Distance.{distanceOf};
-ghost use Rattle.tishkolan.specs.Told.{ofRoot, ofParity, ofCoord, ofPoint, ofDistance, ofNumber, filled, fronted};
+ghost use Rattle.told.specs.Told.{ofRoot, ofParity, ofCoord, ofPoint, ofDistance, ofNumber, filled, fronted};
 ghost use Rattle.tishkolan.specs.Points.{oppositeTold, triple, triples, neighborsTold, childrenTold};
-use crate::told;
-use crate::told::BitsTold;
-use crate::told::CoordTold;
-use crate::told::NumberTold;
-use crate::told::PointTold;
-use crate::told::RefusalTold;
 use refusal::Coord;
 use refusal::Outcome;
 use refusal::Refusal;
 use refusal::Room;
+use told::BitsTold;
+use told::CoordTold;
+use told::NumberTold;
+use told::PointTold;
+use told::RefusalTold;
 
 // The nearest double to the root.
 #[no_mangle]

@@ -2,9 +2,8 @@
 ghost use mathlib.Core.Path.{_≡_};
 ghost use mathlib.Core.Bool.{true, false};
 ghost use Rattle.ring.specs.Ring.{ringIn};
-ghost use Rattle.tishkolan.specs.Rings.{ringTold, ofRing};
-use crate::layers;
-use crate::told::CountTold;
+ghost use Rattle.told.specs.Rings.{ringTold, ofRing};
+use told::CountTold;
 
 // The cells within k steps of a centre.
 #[no_mangle]
@@ -18,7 +17,7 @@ pub extern "C" fn tishkolan_k_ring(
 ) -> CountTold
     ensures { λ t. ⌜ ringTold t (now (workspace .exit)) (now (output .exit)) ≡ ofRing (ringIn true (now (center .entry)) k known waiting (now (workspace .entry)) (now (output .entry))) ⌝ }
 {
-    layers::of_count(
+    told::layers::of_count(
         0,
         ring::k_ring(center, k, known, waiting, workspace, output),
     )
@@ -36,7 +35,7 @@ pub extern "C" fn tishkolan_k_shell(
 ) -> CountTold
     ensures { λ t. ⌜ ringTold t (now (workspace .exit)) (now (output .exit)) ≡ ofRing (ringIn false (now (center .entry)) k known waiting (now (workspace .entry)) (now (output .entry))) ⌝ }
 {
-    layers::of_count(
+    told::layers::of_count(
         0,
         ring::k_shell(center, k, known, waiting, workspace, output),
     )

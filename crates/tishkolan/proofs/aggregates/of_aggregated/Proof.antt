@@ -1,7 +1,7 @@
 -- Each answer by its kind. Assumes nothing.
 use borrow.Author.Needs.{needs}
 use mathlib.Core.Path.{sym, ap, _∙_}
-use Rattle.tishkolan.specs.Told.{bitsTold}
+use Rattle.told.specs.Told.{bitsTold}
 use Rattle.tishkolan.specs.Aggregates.{ofAggregated}
 use Rattle.tishkolan.proofs.aggregates.of_aggregated.Statement.{statement}
 use Rattle.tishkolan.proofs.aggregates.of_aggregated.Tie as tie

@@ -9,7 +9,7 @@ use lib.ListN.{length, drop}
 use lib.Seq.{sets-eq}
 use Rattle.cell.specs.Bytes.{cellBytes}
 use Rattle.cell.specs.Stored.{length-cellBytes, cell-stored-sets}
-use Rattle.tishkolan.specs.Told.{filled}
+use Rattle.told.specs.Told.{filled}
 use Rattle.tishkolan.specs.Cells.{fillCell}
 use Rattle.tishkolan.proofs.Writing.{fill-no-room, fill-front}
 use Rattle.tishkolan.proofs.cells.put_cell.Statement.{statement}

@@ -5,7 +5,7 @@ use mathlib.Core.List.{List}
 use Prim.Native.Nat.{ℕ}
 use Rattle.tishkolan.specs.declared.cells.PairAnswer.{PairAnswer}
 use Rattle.cell.specs.Cell.{betweenOf}
-use Rattle.tishkolan.specs.Told.{toldOf}
+use Rattle.told.specs.Told.{toldOf}
 use Rattle.tishkolan.specs.Cells.{pairOf, ofBetween, betweenTold}
 use Rattle.tishkolan.proofs.Given.{byPair, on-cells}
 use Rattle.tishkolan.proofs.cells.tishkolan_cell_between.Statement.{statement}

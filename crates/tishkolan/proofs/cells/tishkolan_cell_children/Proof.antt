@@ -10,7 +10,7 @@ use Rattle.cell.specs.declared.Children.{Children}
 use Rattle.cell.specs.Cell.{childrenOf}
 use Rattle.cell.specs.Bytes.{cellBytes, fromBytesOf}
 use Rattle.cell.specs.Stored.{length-cellBytes}
-use Rattle.tishkolan.specs.Told.{Filled, filled, fill}
+use Rattle.told.specs.Told.{Filled, filled, fill}
 use Rattle.tishkolan.specs.Cells.{byCell, unfilled, cellsBytes, childrenTold}
 use Rattle.tishkolan.proofs.Given.{on-cell}
 use Rattle.tishkolan.proofs.Found.{children-long}

@@ -6,7 +6,7 @@ use Prim.Native.Nat.{ℕ}
 use Rattle.tishkolan.specs.declared.cells.PairAnswer.{PairAnswer}
 use mir.Facts.{toZ-ofZ}
 use Rattle.cell.specs.Cell.{orderOf}
-use Rattle.tishkolan.specs.Told.{numberTold, noNumber}
+use Rattle.told.specs.Told.{numberTold, noNumber}
 use Rattle.tishkolan.specs.Cells.{pairOf, orderNumber, compareTold}
 use Rattle.tishkolan.proofs.Given.{byPair, on-cells}
 use Rattle.tishkolan.proofs.cells.tishkolan_cell_compare.Statement.{statement}

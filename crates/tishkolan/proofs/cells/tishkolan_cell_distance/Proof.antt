@@ -5,7 +5,7 @@ use mathlib.Core.List.{List}
 use Prim.Native.Nat.{ℕ}
 use Rattle.tishkolan.specs.declared.cells.PairAnswer.{PairAnswer}
 use Rattle.cell.specs.Cell.{distanceCells}
-use Rattle.tishkolan.specs.Told.{noBits, ofDistance}
+use Rattle.told.specs.Told.{noBits, ofDistance}
 use Rattle.tishkolan.specs.Cells.{pairOf, distanceTold}
 use Rattle.tishkolan.proofs.Given.{byPair, on-cells}
 use Rattle.tishkolan.proofs.cells.tishkolan_cell_distance.Statement.{statement}

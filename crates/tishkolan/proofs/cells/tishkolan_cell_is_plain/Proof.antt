@@ -8,8 +8,8 @@ use Rattle.cell.specs.declared.CellAnswer.{CellAnswer}
 use Rattle.cell.specs.Bytes.{fromBytesOf}
 use lib.IntN.{pos}
 use Rattle.cell.specs.Cell.{isPlain}
-use Rattle.tishkolan.specs.declared.told.NumberTold.{NumberTold}
-use Rattle.tishkolan.specs.Told.{numberTold, noNumber}
+use Rattle.told.specs.declared.NumberTold.{NumberTold}
+use Rattle.told.specs.Told.{numberTold, noNumber}
 use Rattle.tishkolan.specs.Cells.{byCell, isPlainTold}
 use Rattle.tishkolan.proofs.Given.{on-cell}
 use Rattle.tishkolan.proofs.cells.tishkolan_cell_is_plain.Statement.{statement}

@@ -7,7 +7,7 @@ use Rattle.cell.specs.declared.CellAnswer.{CellAnswer}
 use Rattle.cell.specs.Bytes.{fromBytesOf}
 use Rattle.cell.specs.Cell.{latticeCoordOf}
 use Rattle.lattice.specs.declared.CoordAnswer.the-variants.{Refused}
-use Rattle.tishkolan.specs.Told.{ofCoord}
+use Rattle.told.specs.Told.{ofCoord}
 use Rattle.tishkolan.specs.Cells.{byCell, latticeCoordTold}
 use Rattle.tishkolan.proofs.Given.{on-cell}
 use Rattle.tishkolan.proofs.cells.tishkolan_cell_lattice_coord.Statement.{statement}

@@ -5,7 +5,7 @@ use mathlib.Core.List.{List}
 use Prim.Native.Nat.{ℕ}
 use Rattle.tishkolan.specs.declared.cells.PairAnswer.{PairAnswer}
 use Rattle.cell.specs.Cell.{manhattanCells}
-use Rattle.tishkolan.specs.Told.{noNumber, ofNumber}
+use Rattle.told.specs.Told.{noNumber, ofNumber}
 use Rattle.tishkolan.specs.Cells.{pairOf, manhattanTold}
 use Rattle.tishkolan.proofs.Given.{byPair, on-cells}
 use Rattle.tishkolan.proofs.cells.tishkolan_cell_manhattan_distance.Statement.{statement}

@@ -3,7 +3,7 @@ use borrow.Author.Needs.{needs}
 use mathlib.Core.Path.{ap, _∙_}
 use Prim.Native.Nat.{ℕ, _-_}
 use Rattle.layer.specs.ChangeLaws.{said-as}
-use Rattle.tishkolan.specs.Layers.{ofFlagsKept}
+use Rattle.told.specs.Layers.{ofFlagsKept}
 use Rattle.tishkolan.proofs.layers.tishkolan_flags_remove.Statement.{statement}
 use Rattle.tishkolan.proofs.layers.tishkolan_flags_remove.Tie as tie
 

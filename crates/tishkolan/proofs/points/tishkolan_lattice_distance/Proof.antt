@@ -2,7 +2,7 @@
 use borrow.Author.Needs.{needs}
 use mathlib.Core.Path.{ap, _∙_}
 use Rattle.distance.specs.Distance.{distanceOf}
-use Rattle.tishkolan.specs.Told.{ofDistance}
+use Rattle.told.specs.Told.{ofDistance}
 use Rattle.tishkolan.proofs.Places.{kept-place}
 use Rattle.tishkolan.proofs.points.tishkolan_lattice_distance.Statement.{statement}
 use Rattle.tishkolan.proofs.points.tishkolan_lattice_distance.Tie as tie

@@ -2,7 +2,7 @@
 use borrow.Author.Needs.{needs}
 use mathlib.Core.Path.{ap, _∙_}
 use Rattle.lattice.specs.Lattice.{manhattanOf}
-use Rattle.tishkolan.specs.Told.{ofNumber}
+use Rattle.told.specs.Told.{ofNumber}
 use Rattle.tishkolan.proofs.Places.{kept-place}
 use Rattle.tishkolan.proofs.points.tishkolan_lattice_manhattan_distance.Statement.{
   statement,

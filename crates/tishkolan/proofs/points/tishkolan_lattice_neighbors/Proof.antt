@@ -6,7 +6,7 @@ use mathlib.Core.Path.{_≡_, refl, ap, _∙_}
 use lib.ListN.{length}
 use Rattle.lattice.specs.declared.Neighbors.{Neighbors}
 use Rattle.lattice.specs.Lattice.{at, neighborsOf}
-use Rattle.tishkolan.specs.Told.{fill}
+use Rattle.told.specs.Told.{fill}
 use Rattle.tishkolan.specs.Points.{triple, triples, neighborsTold}
 use Rattle.tishkolan.proofs.Places.{kept-place, neighbors-long}
 use Rattle.tishkolan.proofs.Writing.{length-flatMap, fill-refused, fill-no-room, fill-front}

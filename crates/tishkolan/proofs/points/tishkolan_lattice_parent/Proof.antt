@@ -2,7 +2,7 @@
 use borrow.Author.Needs.{needs}
 use mathlib.Core.Path.{ap, _∙_}
 use Rattle.lattice.specs.Lattice.{parentOf}
-use Rattle.tishkolan.specs.Told.{ofCoord}
+use Rattle.told.specs.Told.{ofCoord}
 use Rattle.tishkolan.proofs.Places.{kept-place}
 use Rattle.tishkolan.proofs.points.tishkolan_lattice_parent.Statement.{statement}
 use Rattle.tishkolan.proofs.points.tishkolan_lattice_parent.Tie as tie

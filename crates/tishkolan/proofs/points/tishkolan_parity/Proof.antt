@@ -2,7 +2,7 @@
 use borrow.Author.Needs.{needs}
 use mathlib.Core.Path.{ap, _∙_}
 use Rattle.lattice.specs.Lattice.{parityOf}
-use Rattle.tishkolan.specs.Told.{ofParity}
+use Rattle.told.specs.Told.{ofParity}
 use Rattle.tishkolan.proofs.Places.{kept-place}
 use Rattle.tishkolan.proofs.points.tishkolan_parity.Statement.{statement}
 use Rattle.tishkolan.proofs.points.tishkolan_parity.Tie as tie

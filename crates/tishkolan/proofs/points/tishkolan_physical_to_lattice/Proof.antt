@@ -1,7 +1,7 @@
 -- The snapped place, told.
 use borrow.Author.Needs.{needs}
 use mathlib.Core.Path.{ap, _∙_}
-use Rattle.tishkolan.specs.Told.{ofCoord}
+use Rattle.told.specs.Told.{ofCoord}
 use Rattle.tishkolan.proofs.points.tishkolan_physical_to_lattice.Statement.{statement}
 use Rattle.tishkolan.proofs.points.tishkolan_physical_to_lattice.Tie as tie
 

@@ -1,7 +1,7 @@
 -- The root, told.
 use borrow.Author.Needs.{needs}
 use mathlib.Core.Path.{ap, _∙_}
-use Rattle.tishkolan.specs.Told.{ofRoot}
+use Rattle.told.specs.Told.{ofRoot}
 use Rattle.tishkolan.proofs.points.tishkolan_square_root.Statement.{statement}
 use Rattle.tishkolan.proofs.points.tishkolan_square_root.Tie as tie
 

@@ -2,7 +2,7 @@
 use borrow.Author.Needs.{needs}
 use mathlib.Core.Path.{ap, _∙_}
 use Rattle.snap.specs.Snap.{physicalBitsOf}
-use Rattle.tishkolan.specs.Told.{ofPoint}
+use Rattle.told.specs.Told.{ofPoint}
 use Rattle.tishkolan.proofs.Places.{kept-place}
 use Rattle.tishkolan.proofs.points.tishkolan_to_physical.Statement.{statement}
 use Rattle.tishkolan.proofs.points.tishkolan_to_physical.Tie as tie

@@ -5,8 +5,8 @@ use mathlib.Core.List.{List}
 use Prim.Native.Nat.{ℕ}
 use Rattle.survey.specs.declared.LoadAnswer.{LoadAnswer}
 use Rattle.survey.specs.Survey.{Loading, loading}
-use Rattle.tishkolan.specs.declared.told.LoadTold.{LoadTold}
-use Rattle.tishkolan.specs.Surveys.{ofLoad, loadingTold, ofLoading}
+use Rattle.told.specs.declared.LoadTold.{LoadTold}
+use Rattle.told.specs.Surveys.{ofLoad, loadingTold, ofLoading}
 use Rattle.tishkolan.proofs.surveys.tishkolan_survey_load.Statement.{statement}
 use Rattle.tishkolan.proofs.surveys.tishkolan_survey_load.Tie as tie
 

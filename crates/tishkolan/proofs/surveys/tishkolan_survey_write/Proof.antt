@@ -1,7 +1,7 @@
 -- What `survey` says and leaves, told. Assumes nothing.
 use borrow.Author.Needs.{needs}
 use Rattle.layer.specs.ChangeLaws.{said-as}
-use Rattle.tishkolan.specs.Surveys.{ofWrite}
+use Rattle.told.specs.Surveys.{ofWrite}
 use Rattle.tishkolan.proofs.surveys.tishkolan_survey_write.Statement.{statement}
 use Rattle.tishkolan.proofs.surveys.tishkolan_survey_write.Tie as tie
 

@@ -1,0 +1,13 @@
+-- The refusal beside the answer. Assumes nothing.
+use borrow.Author.Needs.{needs}
+use Rattle.told.proofs.layers.kept.Statement.{statement}
+use Rattle.told.proofs.layers.kept.Tie as tie
+
+answered-requires : tie.Need-answered-requires
+answered-requires c κs = search needs
+
+returns : tie.Need-returns
+returns c = (λ i. record { refusal = c .answered .ensures i; found = 1; kept = c .before .args .k; count = c .before .args .count })
+
+pub kept-spec : {M : Type 1} → statement M
+kept-spec = tie.close (tie.spec answered-requires returns)
