@@ -1,18 +1,14 @@
 -- The answer of `whole_root`, from the root at 54 digits. Assumes nothing.
-use mathlib.Core.Path.{_≡_, sym, ap, _∙_, subst}
+use mathlib.Core.Path.{_≡_, sym, subst}
 use Prim.Native.Nat.{ℕ, suc, _+_, _*_, _/_, _%_, _^_, _≤_, _<_}
-use native.Mathlib.Nat.{mod-eq-of-lt, le-trans, le-of-eq, lt-of-le-of-lt}
+use native.Mathlib.Nat.{mod-eq-of-lt}
 use native.Mathlib.Omega.{arith}
-use lib.Dec.{lit≤, lit<}
-use lib.IntN.{pos}
-use lib.Pow.{pow-add, pow-mono}
 use lib.Count.{leadingZeros, leading-top}
 use mathlib.Core.Bool.{false}
-use lib.Ieee.{binary64, div, ofInt, round}
+use lib.Ieee.{binary64, round}
 use Rattle.root.specs.Root.{rootWhole}
 use Rattle.root.specs.Isqrt.{IsRoot}
-use Rattle.root.proofs.Scaled.{half-pos, root-is}
-use Rattle.root.proofs.Divide.{div-ints}
+use Rattle.root.proofs.Scaled.{root-is}
 use Rattle.root.proofs.Steps.{moved, scaled-of, moved-square, power-of, q-least, q-most}
 
 module _ (n : ℕ) (first : 1 ≤ n) (last : n < 18446744073709551616) where
@@ -33,23 +29,11 @@ module _ (n : ℕ) (first : 1 ≤ n) (last : n < 18446744073709551616) where
   unfolding m
   m-least = subst (λ (x : ℕ). 4611686018427387904 ≤ x) (sym m-is) (moved n first last .0)
 
-  scale-le : 2097152 * 2 ^ (leadingZeros 64 n / 2) ≤ 4503599627370496
-  scale-le = le-trans (le-of-eq (sym (pow-add 2 21 (leadingZeros 64 n / 2)))) (pow-mono (up (leadingZeros 64 n / 2) s-le))
-    where
-      up : (s : ℕ) → s ≤ 31 → 21 + s ≤ 52
-      up s h = omega arith
-
-  scale-is : (2097152 * 2 ^ (leadingZeros 64 n / 2)) % 18446744073709551616 ≡ 2097152 * 2 ^ (leadingZeros 64 n / 2)
-  scale-is = mod-eq-of-lt (lt-of-le-of-lt scale-le (lit< tt))
-
-  pub scale-fits : (2097152 * 2 ^ (leadingZeros 64 n / 2)) % 18446744073709551616 ≤ 9007199254740992
-  scale-fits = subst (λ (x : ℕ). x ≤ 9007199254740992) (sym scale-is) (le-trans scale-le (lit≤ tt))
-
   module _ (q : ℕ) (r : IsRoot ((n * 2 ^ (leadingZeros 64 n / 2 * 2)) % 18446744073709551616 * 17592186044416) q) where
     r-m : IsRoot (m * 17592186044416) q
     r-m = subst (λ (x : ℕ). IsRoot (x * 17592186044416) q) m-is r
 
-    least : 9007199254740992 ≤ q
+    pub least : 9007199254740992 ≤ q
     unfolding m
     least = q-least m q (moved n first last .0) r-m
 
@@ -57,17 +41,11 @@ module _ (n : ℕ) (first : 1 ≤ n) (last : n < 18446744073709551616) where
     unfolding m
     most = q-most m q (moved n first last .1) r-m
 
-    pub answer : div binary64 (ofInt binary64 (pos ((q + 1) / 2))) (ofInt binary64 (pos ((2097152 * 2 ^ (leadingZeros 64 n / 2)) % 18446744073709551616))) ≡ rootWhole n
+    pub answer : round binary64 false ((q + 1) / 2) (2097152 * 2 ^ (leadingZeros 64 n / 2)) ≡ rootWhole n
     unfolding m
     answer =
         let s = leadingZeros 64 n / 2 in
         let d = 4194304 * 2 ^ s in
         let t = scaled-of n q d (22 + s) (power-of s) first (subst (λ (x : ℕ). IsRoot x q) (moved-square n s) r-m) most in
         let h : d / 2 ≡ 2097152 * 2 ^ s = omega arith in
-        let big = least in
-        let small = most in
-        let sc = scale-le in
-        let hp : 0 < 2097152 * 2 ^ s = subst (λ (x : ℕ). 0 < x) h (half-pos last t least) in
-        ap (λ (x : ℕ). div binary64 (ofInt binary64 (pos ((q + 1) / 2))) (ofInt binary64 (pos x))) scale-is
-        ∙ div-ints ((q + 1) / 2) (2097152 * 2 ^ s) (omega arith) hp (omega arith)
-        ∙ subst (λ (x : ℕ). _≡_ (round binary64 false ((q + 1) / 2) x) (rootWhole n)) h (root-is last t least)
+        subst (λ (x : ℕ). _≡_ (round binary64 false ((q + 1) / 2) x) (rootWhole n)) h (root-is last t least)

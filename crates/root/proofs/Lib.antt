@@ -1,5 +1,5 @@
 pub mod Scaled
-pub mod Divide
+pub mod Pattern
 pub mod Whole
 pub mod Steps
 pub mod Answer

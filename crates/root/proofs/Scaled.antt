@@ -1,11 +1,11 @@
 -- The root of n moved up by 2 j digits, at 54 digits, is what `rootWhole n` is made of. Assumes nothing.
-use mathlib.Core.Path.{_≡_, refl, sym, ap, _∙_, subst}
+use mathlib.Core.Path.{_≡_, refl, sym, ap, _∙_}
 use mathlib.Core.Bool.{false}
 use Prim.Native.Nat.{ℕ, zero, suc, _+_, _-_, _*_, _/_, _^_, _≤_, _<_}
 use native.Mathlib.Nat.{mul-le-mul, le-trans, le-of-eq, lt-of-lt-of-le, pow-suc}
 use native.Mathlib.Omega.{arith}
 use lib.Dec.{lit≤}
-use lib.Pow.{pow-add, pow-pos}
+use lib.Pow.{pow-add}
 use lib.Ieee.{size, binary64, round}
 use lib.Ieee.Digits.{size-lt, size-le, size-reaches}
 use Rattle.root.specs.Root.{isqrt, shift, signif, rootWhole}
@@ -75,9 +75,6 @@ module _ {n q d : ℕ} (bound : n < 18446744073709551616) (t : Scaled n q d) (la
 
   half-is : d / 2 ≡ 2 ^ (shift n - 1)
   half-is = half (t .j) j-pos (t .power) ∙ ap (λ (x : ℕ). 2 ^ (x - 1)) (sym shift-is)
-
-  pub half-pos : 0 < d / 2
-  half-pos = subst (λ (x : ℕ). 0 < x) (sym half-is) (pow-pos (shift n - 1))
 
   pub root-is : round binary64 false ((q + 1) / 2) (d / 2) ≡ rootWhole n
   unfolding rootWhole

@@ -1,7 +1,9 @@
 // The square root of a whole-valued f64, correctly rounded: no f64 is nearer to the true root than the answer.
 // It is worked out in whole numbers: the root of the number at 54 binary digits, one more than an f64 keeps, rounded to 53.
 ghost use mathlib.Core.Path.{_≡_};
-ghost use Prim.Native.Nat.{_≤_, _*_};
+ghost use mathlib.Core.Bool.{false};
+ghost use Prim.Native.Nat.{_≤_, _*_, _^_};
+ghost use lib.Ieee.{binary64, round};
 ghost use Rattle.root.specs.Isqrt.{IsRoot};
 ghost use Rattle.root.specs.Root.{rootWhole, rootOf, rootBitsOf};
 use refusal::Refusal;
@@ -80,6 +82,14 @@ fn fine_root(m: u64) -> u64
     if t * t > u * 4194304 { q - 1 } else { q }
 }
 
+// The f64 m / 2^(21 + s), by its bits: the leading digit of m adds one to the exponent's field, and all of m = 2^53 adds two.
+fn joined(m: u64, s: u64) -> f64
+    requires { ⌜ (4503599627370496 ≤ m) × (m ≤ 9007199254740992) × (s ≤ 31) ⌝ }
+    ensures { λ r. ⌜ r ≡ round binary64 false m (2097152 * 2 ^ s) ⌝ }
+{
+    f64::from_bits((1053 - s) * 0x0010_0000_0000_0000 + m)
+}
+
 // The f64 nearest to the root of n, which is moved up to 63 or 64 digits, by an even number of them.
 pub fn whole_root(n: u64) -> f64
     requires { ⌜ 1 ≤ n ⌝ }
@@ -87,7 +97,7 @@ pub fn whole_root(n: u64) -> f64
 {
     let s = u64::leading_zeros(n) / 2;
     let q = fine_root(n << (s * 2));
-    (((q + 1) / 2) as f64) / ((2097152u64 << s) as f64)
+    joined((q + 1) / 2, s as u64)
 }
 
 // The root of +0.0 and of each whole number from 1 to 2^64.
