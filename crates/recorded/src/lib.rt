@@ -1,5 +1,6 @@
 // What a record of the Rust oracle's answers holds, and whether what a call told and wrote is what its record expects.
-// Records have 64 bytes. vectors/src/main.rs has the format of those of points and cells; a module has what its kind has of its own.
+// A record has 64 bytes. vectors/src/main.rs has the format of those of points and cells; those of layers, of rings and lines, and of searches have modules of
+// their own.
 ghost use Prim.Native.Nat.{_+_, _≤_, _<_};
 ghost use lib.ListN.{length};
 ghost use Rattle.recorded.specs.Counted.{Counted};
