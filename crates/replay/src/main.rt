@@ -1,8 +1,14 @@
 // Replays the four lists of the Rust oracle's answers that its arguments name, of points and cells, of layers, of rings and lines, and of searches, and
 // prints of each how many of the calls answer otherwise. They were made by `oracle/build` and `target/oracle/checked/vectors crates/replay/data`, from
 // the Rust files of oracle/octaindex3d with the patches of oracle/patches; tests/run makes them anew and compares.
-use answers::Tally;
 use libc::STDOUT_FILENO;
+use recorded::Tally;
+
+mod cells;
+mod each;
+mod layers;
+mod paths;
+mod searches;
 
 // The numbers of the arguments that name the lists.
 const CELLS: usize = 1;
@@ -27,13 +33,10 @@ fn print_tally(tally: Tally, what: &[u8]) {
 
 fn report_answers(list: &[u8], argument: usize) {
     match argument {
-        LAYERS => print_tally(answers::layers::replay(list), b" answers on layers, "),
-        PATHS => print_tally(
-            answers::paths::replay(list),
-            b" answers on rings and lines, ",
-        ),
-        SEARCHES => print_tally(answers::searches::replay(list), b" answers on searches, "),
-        _ => print_tally(answers::replay(list), b" answers, "),
+        LAYERS => print_tally(layers::replay(list), b" answers on layers, "),
+        PATHS => print_tally(paths::replay(list), b" answers on rings and lines, "),
+        SEARCHES => print_tally(searches::replay(list), b" answers on searches, "),
+        _ => print_tally(cells::replay(list), b" answers, "),
     }
 }
 

@@ -1,0 +1,24 @@
+-- A byte times a place of at most 3200 is below 3200 * 256.
+use borrow.Author.Needs.{needs}
+use native.Mathlib.Omega.{arith}
+use native.Mathlib.Nat.{mul-le-mul}
+use Prim.Native.Nat.{ℕ, _+_, _*_, _<_, _≤_}
+use Rattle.recorded.proofs.weighed.Statement.{statement}
+use Rattle.recorded.proofs.weighed.Tie as tie
+
+weight-below : (place byte : ℕ) → place < 3200 → byte < 256 → (place + 1) * byte < 819200
+weight-below place byte p b =
+    let most : (place + 1) * byte ≤ 3200 * 255 = mul-le-mul {n₂ = 3200} {m₂ = 255} (omega arith) (omega arith) in
+    omega arith
+
+add-result : tie.Need-add-result
+add-result c = search needs
+
+mul-result : tie.Need-mul-result
+mul-result c = omega (arith, weight-below (c .args .place) (c .args .byte) (search needs) (search needs))
+
+returns : tie.Need-returns
+returns c = weight-below (c .args .place) (c .args .byte) (search needs) (search needs)
+
+pub weighed-spec : {M : Type 1} → statement M
+weighed-spec = tie.close (tie.spec add-result mul-result returns)
