@@ -20,8 +20,8 @@ use Rattle.astar.specs.declared.Plan.{Plan}
 use Rattle.astar.specs.declared.Sizes.{Sizes}
 use Rattle.astar.specs.declared.Step.{Step}
 use Rattle.astar.specs.declared.Step.the-variants as step
-use Rattle.astar.specs.declared.SearchAnswer.{SearchAnswer}
-use Rattle.astar.specs.declared.SearchAnswer.the-variants as answer
+use Rattle.search.specs.declared.SearchAnswer.{SearchAnswer}
+use Rattle.search.specs.declared.SearchAnswer.the-variants as answer
 
 -- the answer and the output
 abbrev pub answeredIn : Result → List ℕ → Changed SearchAnswer

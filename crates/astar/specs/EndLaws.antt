@@ -21,7 +21,7 @@ use Rattle.astar.specs.declared.Plan.{Plan}
 use Rattle.astar.specs.declared.Sizes.{Sizes}
 use Rattle.astar.specs.declared.Step.{Step}
 use Rattle.astar.specs.declared.Step.the-variants as steps
-use Rattle.astar.specs.declared.SearchAnswer.the-variants as answer
+use Rattle.search.specs.declared.SearchAnswer.the-variants as answer
 use Rattle.astar.specs.State.{stateIn, problemOf, flowIn, GoodStep, Meets, Ran}
 use Rattle.astar.specs.Answer.{answeredIn, wayTo, resultShown, Ended}
 use Rattle.astar.specs.AdvanceLaws.{count-small}

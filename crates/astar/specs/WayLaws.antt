@@ -26,7 +26,7 @@ use Rattle.rows.specs.Rows.{beforeIn, rowIn, rowsIn, Rows}
 use Rattle.rows.specs.RowsLaws.{find-row}
 use Rattle.astar.specs.declared.Plan.{Plan}
 use Rattle.astar.specs.declared.Sizes.{Sizes}
-use Rattle.astar.specs.declared.SearchAnswer.the-variants as answer
+use Rattle.search.specs.declared.SearchAnswer.the-variants as answer
 use Rattle.astar.specs.Answer.{answeredIn, wayTo, cellsTo}
 
 -- ---- a trace

@@ -29,18 +29,6 @@ use refusal::Room;
 use refusal::Spent;
 use waiting::Entry;
 
-// A route at the front of the output: how many cells it has, the bits of its cost, and the cells that were closed to find it.
-pub struct Route {
-    pub cells: usize,
-    pub cost: u64,
-    pub expansions: u64,
-}
-
-pub enum SearchAnswer {
-    Found(Route),
-    Refused(Refusal),
-}
-
 // What is searched, and with what room.
 pub struct Plan {
     pub start: Cell,

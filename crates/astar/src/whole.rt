@@ -9,13 +9,12 @@ ghost use Rattle.layer.specs.Layer.{rowsOf};
 ghost use Rattle.layer.specs.Changes.{changed};
 ghost use Rattle.search.specs.Search.{begin, run, found};
 ghost use Rattle.search.specs.Plan.{distanceBits, resultOf, popsFor, searchOf};
+ghost use Rattle.search.specs.Searched.{searched};
 ghost use Rattle.astar.specs.State.{problemOf, Meets, Ran};
 ghost use Rattle.astar.specs.Answer.{answeredIn, resultShown, Ended};
-ghost use Rattle.astar.specs.Call.{hasRooms, Rooms, Ready, resultUnder, resultIn, searched, searchIn};
+ghost use Rattle.astar.specs.Call.{hasRooms, Rooms, Ready, resultUnder, resultIn, searchIn};
 use crate::Estimate;
 use crate::Plan;
-use crate::Route;
-use crate::SearchAnswer;
 use crate::Sizes;
 use crate::Step;
 use crate::way;
@@ -25,6 +24,8 @@ use lattice::ParityAnswer;
 use refusal::Cell;
 use refusal::Refusal;
 use refusal::Room;
+use search::Route;
+use search::SearchAnswer;
 use waiting::Entry;
 
 // The start is known and waits.
