@@ -20,9 +20,9 @@ use Rattle.known.specs.Workspace.{isRoom, Room, zeros}
 use Rattle.search.specs.Search.{Result, none-found}
 use Rattle.search.specs.Plan.{searchOf}
 use Rattle.search.specs.Searched.{Searched, searched}
-use Rattle.astar.specs.declared.Plan.{Plan}
 use Rattle.search.specs.declared.SearchAnswer.{SearchAnswer}
 use Rattle.search.specs.declared.SearchAnswer.the-variants as answer
+use Rattle.expansion.specs.declared.Plan.{Plan}
 use Rattle.astar.specs.Answer.{answeredIn}
 
 unfoldable pub hasRooms : ℕ → ℕ → List ℕ → List ℕ → Bool
