@@ -1,2 +1,1 @@
-pub mod Last
 mod OneAnswer

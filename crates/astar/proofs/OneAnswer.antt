@@ -2,7 +2,7 @@
 use mathlib.Core.Path.{ap, sym, _∙_}
 use denote.Ref.{at-last}
 use Rattle.refusal.specs.OneAnswer.{OneAnswer, OneExit}
-use Rattle.astar.specs.Call.{Searched}
+use Rattle.search.specs.Searched.{Searched}
 use Rattle.astar.proofs.whole.astar_with_limit.Kinds as limited-kinds
 use Rattle.astar.proofs.whole.astar_with_limit.Reads as limited
 use Rattle.astar.proofs.whole.astar.Kinds as astar-kinds

@@ -15,13 +15,13 @@ use Rattle.listing.specs.Listing.{roomIn, cellsLaid}
 use Rattle.known.specs.Known.{cellIn}
 use Rattle.search.specs.Search.{Problem, state, Result, found, none-found, find, isKnown, traced, arrived}
 use Rattle.search.specs.Plan.{cellOf}
+use Rattle.search.specs.declared.SearchAnswer.{SearchAnswer}
+use Rattle.search.specs.declared.SearchAnswer.the-variants as answer
 use Rattle.rows.specs.Rows.{rowsIn, Rows}
-use Rattle.astar.specs.declared.Plan.{Plan}
-use Rattle.astar.specs.declared.Sizes.{Sizes}
-use Rattle.astar.specs.declared.Step.{Step}
-use Rattle.astar.specs.declared.Step.the-variants as step
-use Rattle.astar.specs.declared.SearchAnswer.{SearchAnswer}
-use Rattle.astar.specs.declared.SearchAnswer.the-variants as answer
+use Rattle.expansion.specs.declared.Plan.{Plan}
+use Rattle.expansion.specs.declared.Sizes.{Sizes}
+use Rattle.expansion.specs.declared.Step.{Step}
+use Rattle.expansion.specs.declared.Step.the-variants as step
 
 -- the answer and the output
 abbrev pub answeredIn : Result → List ℕ → Changed SearchAnswer

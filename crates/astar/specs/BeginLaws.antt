@@ -18,12 +18,12 @@ use Rattle.rows.specs.Rows.{rowsFrom, rowsIn, Rows, Changed}
 use Rattle.search.specs.Search.{Problem, Told, is, refused, row, state, going, find, put, insert, begin}
 use Rattle.search.specs.Plan.{planOf}
 use Rattle.search.specs.Counted.{closedIn}
-use Rattle.astar.specs.declared.Plan.{Plan}
-use Rattle.astar.specs.declared.Sizes.{Sizes}
-use Rattle.astar.specs.declared.Step.the-variants as step
-use Rattle.astar.specs.State.{entriesIn, problemOf, Cost, Good, Meets}
+use Rattle.expansion.specs.declared.Plan.{Plan}
+use Rattle.expansion.specs.declared.Sizes.{Sizes}
+use Rattle.expansion.specs.declared.Step.the-variants as step
+use Rattle.expansion.specs.State.{entriesIn, problemOf, Cost, Good, Meets}
+use Rattle.expansion.specs.StateLaws.{sizesOf, entryTo, Entered, entered-entries, entered-good}
 use Rattle.astar.specs.Call.{Rooms}
-use Rattle.astar.specs.StateLaws.{sizesOf, entryTo, Entered, entered-entries, entered-good}
 
 no-cost : Cost 0
 unfolding nanBits

@@ -19,20 +19,11 @@ use Rattle.known.specs.Known.{Roomy}
 use Rattle.known.specs.Workspace.{isRoom, Room, zeros}
 use Rattle.search.specs.Search.{Result, none-found}
 use Rattle.search.specs.Plan.{searchOf}
-use Rattle.astar.specs.declared.Plan.{Plan}
-use Rattle.astar.specs.declared.SearchAnswer.{SearchAnswer}
-use Rattle.astar.specs.declared.SearchAnswer.the-variants as answer
+use Rattle.search.specs.Searched.{Searched, searched}
+use Rattle.search.specs.declared.SearchAnswer.{SearchAnswer}
+use Rattle.search.specs.declared.SearchAnswer.the-variants as answer
+use Rattle.expansion.specs.declared.Plan.{Plan}
 use Rattle.astar.specs.Answer.{answeredIn}
-
--- what the call says, and what stands in the three lent buffers when it returns
-pub record Searched : Type 0 where
-  pub said : SearchAnswer
-  pub known : List ℕ
-  pub waiting : List ℕ
-  pub output : List ℕ
-
-abbrev pub searched : SearchAnswer → List ℕ → List ℕ → List ℕ → Searched
-searched a w h l = record { said = a; known = w; waiting = h; output = l }
 
 unfoldable pub hasRooms : ℕ → ℕ → List ℕ → List ℕ → Bool
 hasRooms known waiting w h = (isRoom known && isRoom waiting) && (leb (44 * known + 64) (length w) && leb (32 * waiting) (length h))

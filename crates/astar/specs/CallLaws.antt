@@ -30,11 +30,12 @@ use Rattle.known.specs.WorkspaceLaws.{room-tested, zeros-same}
 use Rattle.search.specs.Search.{Result, found, none-found, run, begin}
 use Rattle.search.specs.Plan.{distanceBits, planOf, resultOf, popsFor, resultBy, searchOf}
 use Rattle.search.specs.Besides.{cell-raw}
-use Rattle.astar.specs.declared.SearchAnswer.{SearchAnswer}
-use Rattle.astar.specs.declared.SearchAnswer.the-variants as answer
+use Rattle.search.specs.Searched.{searched}
+use Rattle.search.specs.declared.SearchAnswer.{SearchAnswer}
+use Rattle.search.specs.declared.SearchAnswer.the-variants as answer
 use Rattle.astar.specs.Answer.{answeredIn}
 use Rattle.astar.specs.WayLaws.{way-found}
-use Rattle.astar.specs.Call.{searched, hasRooms, Rooms, resultUnder, resultIn, wiped, searchIn}
+use Rattle.astar.specs.Call.{hasRooms, Rooms, resultUnder, resultIn, wiped, searchIn}
 
 -- results that are the same have the same answer
 pub answers : {x y : Result} (l : List ℕ) → x ≡ y → answeredIn x l ≡ answeredIn y l

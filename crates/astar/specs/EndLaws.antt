@@ -17,14 +17,14 @@ use Rattle.search.specs.Search.{Problem, Told, Row, Result, Flow, going, done, 
 use Rattle.search.specs.Plan.{planOf, distanceBits, resultOf, popsFor}
 use Rattle.search.specs.Ending.{result-is}
 use Rattle.search.specs.Besides.{cell-raw}
-use Rattle.astar.specs.declared.Plan.{Plan}
-use Rattle.astar.specs.declared.Sizes.{Sizes}
-use Rattle.astar.specs.declared.Step.{Step}
-use Rattle.astar.specs.declared.Step.the-variants as steps
-use Rattle.astar.specs.declared.SearchAnswer.the-variants as answer
-use Rattle.astar.specs.State.{stateIn, problemOf, flowIn, GoodStep, Meets, Ran}
+use Rattle.search.specs.declared.SearchAnswer.the-variants as answer
+use Rattle.expansion.specs.declared.Plan.{Plan}
+use Rattle.expansion.specs.declared.Sizes.{Sizes}
+use Rattle.expansion.specs.declared.Step.{Step}
+use Rattle.expansion.specs.declared.Step.the-variants as steps
+use Rattle.expansion.specs.State.{stateIn, problemOf, flowIn, GoodStep, Meets, Ran}
+use Rattle.expansion.specs.AdvanceLaws.{count-small}
 use Rattle.astar.specs.Answer.{answeredIn, wayTo, resultShown, Ended}
-use Rattle.astar.specs.AdvanceLaws.{count-small}
 
 -- ---- a search that has come to its goal
 

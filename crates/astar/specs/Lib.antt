@@ -1,12 +1,3 @@
-pub mod State
-pub mod Estimate
-pub mod CostLaws
-pub mod StateLaws
-pub mod RelaxLaws
-pub mod AroundLaws
-pub mod EnterLaws
-pub mod AdvanceLaws
-pub mod RunLaws
 pub mod Answer
 pub mod Call
 pub mod BeginLaws

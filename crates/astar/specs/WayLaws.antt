@@ -22,11 +22,11 @@ use Rattle.known.specs.Laws.{cell-words}
 use Rattle.search.specs.Search.{Row, found, find, beforeOf, traced}
 use Rattle.search.specs.Plan.{cellOf}
 use Rattle.search.specs.Besides.{cell-raw}
+use Rattle.search.specs.declared.SearchAnswer.the-variants as answer
 use Rattle.rows.specs.Rows.{beforeIn, rowIn, rowsIn, Rows}
 use Rattle.rows.specs.RowsLaws.{find-row}
-use Rattle.astar.specs.declared.Plan.{Plan}
-use Rattle.astar.specs.declared.Sizes.{Sizes}
-use Rattle.astar.specs.declared.SearchAnswer.the-variants as answer
+use Rattle.expansion.specs.declared.Plan.{Plan}
+use Rattle.expansion.specs.declared.Sizes.{Sizes}
 use Rattle.astar.specs.Answer.{answeredIn, wayTo, cellsTo}
 
 -- ---- a trace

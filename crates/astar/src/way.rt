@@ -7,12 +7,12 @@ ghost use Rattle.listing.specs.Listing.{roomIn, cellsLaid};
 ghost use Rattle.search.specs.Search.{found};
 ghost use Rattle.rows.specs.Rows.{rowIn, Rows};
 ghost use Rattle.astar.specs.Answer.{answeredIn, wayTo, cellsTo};
-use crate::Plan;
-use crate::Route;
-use crate::SearchAnswer;
-use crate::Sizes;
+use expansion::Plan;
+use expansion::Sizes;
 use refusal::Refusal;
 use refusal::Room;
+use search::Route;
+use search::SearchAnswer;
 
 // How many cells the route to the cell of record i has.
 fn cells_to(workspace: &[u8], plan: Plan, sizes: Sizes, i: usize) -> usize

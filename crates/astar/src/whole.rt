@@ -9,22 +9,23 @@ ghost use Rattle.layer.specs.Layer.{rowsOf};
 ghost use Rattle.layer.specs.Changes.{changed};
 ghost use Rattle.search.specs.Search.{begin, run, found};
 ghost use Rattle.search.specs.Plan.{distanceBits, resultOf, popsFor, searchOf};
-ghost use Rattle.astar.specs.State.{problemOf, Meets, Ran};
+ghost use Rattle.search.specs.Searched.{searched};
+ghost use Rattle.expansion.specs.State.{problemOf, Meets, Ran};
 ghost use Rattle.astar.specs.Answer.{answeredIn, resultShown, Ended};
-ghost use Rattle.astar.specs.Call.{hasRooms, Rooms, Ready, resultUnder, resultIn, searched, searchIn};
-use crate::Estimate;
-use crate::Plan;
-use crate::Route;
-use crate::SearchAnswer;
-use crate::Sizes;
-use crate::Step;
+ghost use Rattle.astar.specs.Call.{hasRooms, Rooms, Ready, resultUnder, resultIn, searchIn};
 use crate::way;
 use cell::CellAnswer;
+use expansion::Estimate;
+use expansion::Plan;
+use expansion::Sizes;
+use expansion::Step;
 use known::Found;
 use lattice::ParityAnswer;
 use refusal::Cell;
 use refusal::Refusal;
 use refusal::Room;
+use search::Route;
+use search::SearchAnswer;
 use waiting::Entry;
 
 // The start is known and waits.
@@ -34,7 +35,7 @@ fn begin(workspace: &mut [u8], heap: &mut [u8], flags: &[u8], count: usize, plan
 {
     let start = plan.start;
     let goal = plan.goal;
-    match crate::ahead(start, goal) {
+    match expansion::ahead(start, goal) {
         Estimate::Refused(r) => Step::Stopped(r),
         Estimate::Bits(h) => {
             rows::clear(workspace, plan.known);
@@ -72,7 +73,7 @@ fn run_from_start(
     let Step::Going(sizes) = first else {
         return first;
     };
-    crate::run(workspace, heap, flags, count, plan, sizes)
+    expansion::run(workspace, heap, flags, count, plan, sizes)
 }
 
 // What a search that has ended says.

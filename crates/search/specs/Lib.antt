@@ -1,5 +1,6 @@
 pub mod Search
 pub mod Plan
+pub mod Searched
 pub mod Midway
 pub mod Accepted
 pub mod Ending

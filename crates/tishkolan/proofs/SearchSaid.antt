@@ -2,8 +2,8 @@
 use mathlib.Core.Path.{_≡_, ap, _∙_}
 use mathlib.Core.List.{List}
 use Prim.Native.Nat.{ℕ}
-use Rattle.astar.specs.declared.SearchAnswer.{SearchAnswer}
-use Rattle.astar.specs.Call.{Searched, searched}
+use Rattle.search.specs.declared.SearchAnswer.{SearchAnswer}
+use Rattle.search.specs.Searched.{Searched, searched}
 use Rattle.told.specs.declared.SearchTold.{SearchTold}
 use Rattle.told.specs.Searches.{ofSearch, searchTold, ofSearched}
 

@@ -6,10 +6,10 @@ use Rattle.refusal.specs.declared.Ends.{Ends}
 use Rattle.refusal.specs.declared.Spent.{Spent}
 use Rattle.refusal.specs.declared.Refusal.{Refusal}
 use Rattle.refusal.specs.declared.Refusal.the-variants.{InvalidParity, NoParent, NoChildren, OutOfRange, NoValues, HasNan, SearchLimitExceeded, NoPathFound, CoordOverflow, NoRoom, BadWorkspace, BadFile, BadList, BadLayer, BadRule}
-use Rattle.astar.specs.declared.Route.{Route}
-use Rattle.astar.specs.declared.SearchAnswer.{SearchAnswer}
-use Rattle.astar.specs.declared.SearchAnswer.the-variants as answer
-use Rattle.astar.specs.Call.{Searched}
+use Rattle.search.specs.declared.Route.{Route}
+use Rattle.search.specs.declared.SearchAnswer.{SearchAnswer}
+use Rattle.search.specs.declared.SearchAnswer.the-variants as answer
+use Rattle.search.specs.Searched.{Searched}
 use Rattle.told.specs.declared.SearchTold.{SearchTold}
 use Rattle.told.specs.Told.{answered, toldOf}
 

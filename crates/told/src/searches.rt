@@ -2,11 +2,11 @@
 ghost use mathlib.Core.Path.{_≡_};
 ghost use Rattle.told.specs.Searches.{routeTold, spentTold, endsTold, bareTold, noRoute, ofSearch};
 use crate::SearchTold;
-use astar::Route;
-use astar::SearchAnswer;
 use refusal::Ends;
 use refusal::Refusal;
 use refusal::Spent;
+use search::Route;
+use search::SearchAnswer;
 
 fn route_told(route: Route) -> SearchTold
     ensures { λ t. ⌜ t ≡ routeTold route ⌝ }

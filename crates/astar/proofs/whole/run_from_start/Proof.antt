@@ -1,7 +1,7 @@
 -- A first step that is the last, or all others after it.
 use borrow.Author.Needs.{needs}
+use Rattle.expansion.proofs.Last.{ended}
 use Rattle.astar.specs.EndLaws.{met-ran, then-ran}
-use Rattle.astar.proofs.Last.{ended}
 use Rattle.astar.proofs.whole.run_from_start.Statement.{statement}
 use Rattle.astar.proofs.whole.run_from_start.Tie as tie
 

@@ -1,0 +1,138 @@
+-- One pop: the first of the entries that wait is skipped, or its cell is closed, counted and entered. Assumes nothing.
+use mathlib.Core.Path.{_≡_, refl, sym, ap, subst, _∙_}
+use mathlib.Core.Bool.{true, false, true≢false}
+use mathlib.Core.List.{List, [], _∷_, map}
+use mathlib.Core.Option.{none, some}
+use Prim.Native.Nat.{ℕ, suc, _+_, _-_, _≤_, _<_}
+use native.Mathlib.Numerals.{add-one}
+use native.Mathlib.Omega.{arith}
+use lib.Dec.{eqb}
+use Rattle.refusal.specs.declared.Cell.{Cell}
+use Rattle.refusal.specs.declared.Refusal.the-variants.{NoPathFound}
+use Rattle.refusal.specs.Table.{rawOf}
+use Rattle.lattice.specs.Tables.{Each}
+use Rattle.waiting.specs.declared.Entry as waited
+use Rattle.waiting.specs.Sorted.{sortedKeys}
+use Rattle.waiting.specs.Steps.{Popped}
+use Rattle.waiting.specs.Laws.{empty-keys}
+use Rattle.known.specs.Known.{cellIn}
+use Rattle.search.specs.Search.{Problem, Row, Entry, State, state, going, find, row, close, isClosed, isKnown, gOf, entered, popped, next, step}
+use Rattle.search.specs.Plan.{planOf}
+use Rattle.search.specs.Counted.{closedIn, closed-at-most, closed-close}
+use Rattle.search.specs.WaitingLaws.{KnownCell, waits-close}
+use Rattle.rows.specs.Rows.{rowIn, rowsIn, Changed}
+use Rattle.rows.specs.RowsLaws.{length-rows}
+use Rattle.expansion.specs.declared.Plan.{Plan}
+use Rattle.expansion.specs.declared.Sizes.{Sizes}
+use Rattle.expansion.specs.declared.Step.{Step}
+use Rattle.expansion.specs.declared.Step.the-variants as steps
+use Rattle.expansion.specs.State.{entryWith, entriesIn, stateIn, problemOf, Good, Meets}
+use Rattle.expansion.specs.StateLaws.{entryFrom, entries-popped, either, CostRow, costs-each, each-costs, sizesOf}
+
+-- ---- the cases of the definition
+
+module _ (P : Problem) (c : ℕ) (rest : List Entry) (s : State) where
+  popped-closed : isClosed (find c (s .known)) ≡ true → popped P c rest s ≡ going (state (s .known) rest (s .count))
+  unfolding popped
+  popped-closed e = rw e
+
+  popped-open : isClosed (find c (s .known)) ≡ false → popped P c rest s ≡ entered P c (gOf (find c (s .known))) (state (close c (s .known)) rest (s .count + 1))
+  unfolding popped
+  popped-open e = rw e
+
+each-close : (c : ℕ) (k : List Row) → Each CostRow k → Each CostRow (close c k)
+unfolding close
+each-close c [] h = tt
+each-close c (e ∷ es) h = either (Each CostRow) (eqb c (e .cell)) (row (e .cell) (e .g) (e .before) true ∷ es) (e ∷ close c es) h (h .0, each-close c es (h .1))
+
+-- ---- the cases of the code
+
+-- so a count is at most the room
+pub count-small : {p : Plan} {w h : List ℕ} {z : Sizes} → Good p w h z → z .count ≤ 65536
+count-small {p} {w} {h} {z} good =
+    omega (arith, good .counted, closed-at-most (rowsIn w (p .known) (z .known)), length-rows w (p .known) (z .known), good .rows .known .count, good .rows .known .roomy .small)
+
+pub nowhere-meets : (p : Plan) (flags w h : List ℕ) (count : ℕ) (z : Sizes) → z .waiting ≡ 0
+    → Meets (problemOf p flags count) p w h w h (steps.Stopped (NoPathFound (record { start = p .start; goal = p .goal }))) (step (problemOf p flags count) (stateIn p w h z))
+unfolding step planOf entriesIn
+nowhere-meets p flags w h count z empty =
+    let none-wait : entriesIn h (z .waiting) ≡ [] = ap (λ (n : ℕ). map entryWith (sortedKeys h n)) empty ∙ ap (map entryWith) (empty-keys h) in
+    record { same = ap (λ (l : List Entry). next (problemOf p flags count) l (stateIn p w h z)) (sym none-wait); good = tt; workspace-length = refl; heap-length = refl }
+
+module _ (p : Plan) (P : Problem) (w h h′ : List ℕ) (z : Sizes) (e : waited.Entry) (good : Good p w h z) (pop : Popped h h′ (z .waiting) e) where
+  abbrev rows : List Row
+  rows = rowsIn w (p .known) (z .known)
+
+  abbrev s : State
+  s = stateIn p w h z
+
+  abbrev c : ℕ
+  c = rawOf (e .cell)
+
+  abbrev rest : List Entry
+  rest = entriesIn h′ (z .waiting - 1)
+
+  entries : entriesIn h (z .waiting) ≡ entryFrom e ∷ rest
+  entries = entries-popped h h′ (z .waiting) e pop
+
+  waits : Each (KnownCell rows) (entryFrom e ∷ rest)
+  waits = subst (Each (KnownCell rows)) entries (good .waits)
+
+  step-is : step P s ≡ popped P c rest s
+  unfolding step
+  step-is = ap (λ (l : List Entry). next P l s) entries
+
+  -- every cell that waits is known
+  pub never-nowhere : find c rows ≡ none → ⊥
+  never-nowhere n = true≢false (sym (waits .0) ∙ ap isKnown n)
+
+  module _ (i : ℕ) (found : find c rows ≡ some (rowIn w (p .known) i)) where
+    pub skipped-meets : rowIn w (p .known) i .closed ≡ true → Meets P p w h w h′ (steps.Going (sizesOf (z .known) (z .waiting - 1) (z .count))) (step P s)
+    skipped-meets closed =
+        let fewer : z .waiting - 1 ≤ p .waiting = omega (arith, good .few) in
+        record {
+          same = sym (step-is ∙ popped-closed P c rest s (ap isClosed found ∙ closed));
+          good = record {
+            rows = good .rows;
+            heap = pop .heap;
+            few = fewer;
+            small = good .small;
+            size = rw (pop .long) (good .size);
+            costs = good .costs;
+            waits = waits .1;
+            counted = good .counted;
+          };
+          workspace-length = refl;
+          heap-length = pop .long;
+        }
+
+    module _ (unclosed : rowIn w (p .known) i .closed ≡ false) (below : i < z .known) (cell-is : cellIn w (p .known) i ≡ e .cell) (w′ : List ℕ)
+        (changed : Changed w w′ (p .known) (z .known) (z .known) (close (rawOf (cellIn w (p .known) i)) rows)) where
+      rows-are : rowsIn w′ (p .known) (z .known) ≡ close c rows
+      rows-are = changed .rows-are ∙ ap (λ (d : Cell). close (rawOf d) rows) cell-is
+
+      pub closed-good : Good p w′ h′ (sizesOf (z .known) (z .waiting - 1) (z .count + 1))
+      closed-good =
+          let fewer : z .waiting - 1 ≤ p .waiting = omega (arith, good .few) in
+          record {
+            rows = changed .good;
+            heap = pop .heap;
+            few = fewer;
+            small = good .small;
+            size = rw (pop .long) (good .size);
+            costs = each-costs w′ (p .known) (z .known) (subst (Each CostRow) (sym rows-are) (each-close c rows (costs-each w (p .known) (z .known) (good .costs))));
+            waits = subst (λ (k : List Row). Each (KnownCell k) rest) (sym rows-are) (waits-close c rows rest (waits .1));
+            counted = ap closedIn rows-are ∙ closed-close c rows (waits .0) (ap isClosed found ∙ unclosed) ∙ ap suc (good .counted) ∙ sym (add-one (z .count));
+          }
+
+      pub entered-meets : (g : ℕ) → g ≡ rowIn w (p .known) i .g → (w″ h″ : List ℕ) (r : Step)
+          → Meets P p w′ h′ w″ h″ r (entered P (rawOf (cellIn w′ (p .known) i)) g (stateIn p w′ h′ (sizesOf (z .known) (z .waiting - 1) (z .count + 1)))) → Meets P p w h w″ h″ r (step P s)
+      entered-meets g g-is w″ h″ r m =
+          let cell = ap rawOf (changed .cells i below ∙ cell-is) in
+          let cost = g-is ∙ ap gOf (sym found) in
+          record {
+            same = m .same ∙ (λ j. entered P (cell j) (cost j) (state (rows-are j) rest (z .count + 1))) ∙ sym (step-is ∙ popped-open P c rest s (ap isClosed found ∙ unclosed));
+            good = m .good;
+            workspace-length = m .workspace-length ∙ changed .length-kept;
+            heap-length = m .heap-length ∙ pop .long;
+          }

@@ -1,0 +1,237 @@
+-- What a push, a pop and a row that is put make of the state that two buffers hold. Assumes nothing.
+use mathlib.Core.Path.{_≡_, refl, sym, ap, subst, _∙_}
+use mathlib.Core.Bool.{Bool, true, false, cond}
+use mathlib.Core.List.{List, [], _∷_, map}
+use Prim.Native.Nat.{ℕ, zero, suc, _+_, _-_, _*_, _/_, _%_, _^_, _≤_, _<_}
+use native.Mathlib.Nat.{add-assoc, add-mul, mul-assoc, div-add-mod'}
+use native.Mathlib.Omega.{arith}
+use lib.Dec.{leb, ltb, eqb}
+use lib.ListN.{length, length-map}
+use borrow.Author.Tests.{lt-ltb, le-ltb}
+use Rattle.refusal.specs.declared.Cell.{Cell}
+use Rattle.refusal.specs.declared.Refusal.{Refusal}
+use Rattle.refusal.specs.declared.Refusal.the-variants.{NoRoom}
+use Rattle.refusal.specs.declared.Room.the-variants.{Waiting}
+use Rattle.refusal.specs.Table.{rawOf}
+use Rattle.lattice.specs.Tables.{Each}
+use Rattle.cell.specs.Laws.{Words}
+use Rattle.waiting.specs.declared.Entry as waited
+use Rattle.waiting.specs.Entries.{entryOf, EntryWords}
+use Rattle.waiting.specs.Sorted.{insertKey, sortedKeys}
+use Rattle.waiting.specs.Steps.{Pushed, Popped}
+use Rattle.waiting.specs.Laws.{length-sortedKeys, key-words}
+use Rattle.search.specs.Search.{Problem, Told, is, refused, Row, Entry, state, Flow, going, stopped, find, row, put, isClosed, plus, keyOf, insert, pushed, push}
+use Rattle.search.specs.Counted.{closedIn, closed-put}
+use Rattle.search.specs.WaitingLaws.{KnownCell, waits-put}
+use Rattle.rows.specs.Rows.{gIn, rowIn, rowsFrom, rowsIn, Changed}
+use Rattle.rows.specs.RowsLaws.{find-row, find-no-row}
+use Rattle.known.specs.Known.{cellIn}
+use Rattle.known.specs.Laws.{cell-words}
+use Rattle.words.specs.Word.{Bytes}
+use Rattle.cell.specs.Cell.{distanceCells}
+use Rattle.search.specs.Plan.{distanceBits, planOf}
+use Rattle.expansion.specs.declared.Plan.{Plan}
+use Rattle.expansion.specs.declared.Sizes.{Sizes}
+use Rattle.expansion.specs.declared.Step.the-variants as step
+use Rattle.expansion.specs.State.{entryWith, entriesIn, stateIn, problemOf, Cost, Good, Meets}
+
+-- ---- waiting entries
+
+-- an entry of the code, as the definition has it
+abbrev pub entryFrom : waited.Entry → Entry
+entryFrom e = record { f = e .f; cell = rawOf (e .cell); g = e .g }
+
+joined : (f high low : ℕ) → f * 340282366920938463463374607431768211456 + (high * 2 ^ 64 + low) ≡ (f * 2 ^ 64 + high) * 2 ^ 64 + low
+joined f high low =
+    sym (add-assoc (f * 340282366920938463463374607431768211456) (high * 2 ^ 64) low)
+    ∙ ap (λ (x : ℕ). x + low) (ap (λ (x : ℕ). x + high * 2 ^ 64) (sym (mul-assoc f (2 ^ 64) (2 ^ 64))) ∙ sym (add-mul (f * 2 ^ 64) high (2 ^ 64)))
+
+-- the two crates order entries by the same key
+key-with : (k : ℕ) → keyOf (entryWith k) ≡ k
+unfolding keyOf entryOf rawOf
+key-with k =
+    let body = k / 2 ^ 64 in
+    let head = body / 2 ^ 64 in
+    ap (λ (x : ℕ). x * 18446744073709551616 + k % 2 ^ 64) (joined (head / 2 ^ 64) (head % 2 ^ 64) (body % 2 ^ 64) ∙ ap (λ (x : ℕ). x * 2 ^ 64 + body % 2 ^ 64) (div-add-mod' head (2 ^ 64)) ∙ div-add-mod' body (2 ^ 64))
+    ∙ div-add-mod' k (2 ^ 64)
+
+insert-with : (x : ℕ) (keys : List ℕ) → map entryWith (insertKey x keys) ≡ insert (entryWith x) (map entryWith keys)
+unfolding insertKey insert
+insert-with x [] = refl
+insert-with x (y ∷ ys) =
+    go (leb x y) (insert-with x ys)
+    ∙ ap (λ (t : Bool). cond t (entryWith x ∷ entryWith y ∷ map entryWith ys) (entryWith y ∷ insert (entryWith x) (map entryWith ys))) (λ i. leb (sym (key-with x) i) (sym (key-with y) i))
+  where
+    go : (t : Bool) → map entryWith (insertKey x ys) ≡ insert (entryWith x) (map entryWith ys)
+        → map entryWith (cond t (x ∷ (y ∷ ys)) (y ∷ insertKey x ys)) ≡ cond t (entryWith x ∷ entryWith y ∷ map entryWith ys) (entryWith y ∷ insert (entryWith x) (map entryWith ys))
+    go true later = refl
+    go false later = ap (λ (l : List Entry). entryWith y ∷ l) later
+
+pub entries-pushed : (h h′ : List ℕ) (n : ℕ) (e : waited.Entry) → EntryWords e → Pushed h h′ n e → entriesIn h′ (n + 1) ≡ insert (entryFrom e) (entriesIn h n)
+unfolding entriesIn
+entries-pushed h h′ n e w p =
+    ap (map entryWith) (p .keys) ∙ insert-with _ (sortedKeys h n) ∙ ap (λ (d : waited.Entry). insert (entryFrom d) (map entryWith (sortedKeys h n))) (key-words e w)
+
+pub entries-popped : (h h′ : List ℕ) (n : ℕ) (e : waited.Entry) → Popped h h′ n e → entriesIn h n ≡ entryFrom e ∷ entriesIn h′ (n - 1)
+unfolding entriesIn
+entries-popped h h′ n e p = ap (map entryWith) (p .keys) ∙ ap (λ (d : waited.Entry). entryFrom d ∷ map entryWith (sortedKeys h′ (n - 1))) (key-words e (p .words))
+
+pub length-entries : (h : List ℕ) (n : ℕ) → length (entriesIn h n) ≡ n
+unfolding entriesIn
+length-entries h n = length-map (sortedKeys h n) entryWith ∙ length-sortedKeys h n
+
+-- ---- the costs of all rows
+
+pub either : (Q : List Row → Type 0) (b : Bool) (k l : List Row) → Q k → Q l → Q (cond b k l)
+either Q true k l h i = h
+either Q false k l h i = i
+
+module _ (Q : Row → Type 0) where
+  each-from : (r : ℕ → Row) (i n : ℕ) → ((j : ℕ) → i ≤ j → j < i + n → Q (r j)) → Each Q (rowsFrom r i n)
+  unfolding rowsFrom
+  each-from r i zero f = tt
+  each-from r i (suc n) f = (f i (omega arith) (omega arith), each-from r (suc i) n (λ j after below. f j (omega arith) (omega arith)))
+
+  from-each : (r : ℕ → Row) (i n : ℕ) → Each Q (rowsFrom r i n) → (j : ℕ) → j < n → Q (r (i + j))
+  unfolding rowsFrom
+  from-each r i zero h j below = absurd (omega arith)
+  from-each r i (suc n) h zero below = let place : i ≡ i + 0 = omega arith in subst (λ (k : ℕ). Q (r k)) place (h .0)
+  from-each r i (suc n) h (suc j) below = let place : suc i + j ≡ i + suc j = omega arith in subst (λ (k : ℕ). Q (r k)) place (from-each r (suc i) n (h .1) j (omega arith))
+
+  each-put : (c g b : ℕ) (k : List Row) → Each Q k → Q (row c g b false) → Each Q (put c g b k)
+  unfolding put
+  each-put c g b [] h q = (q, tt)
+  each-put c g b (e ∷ es) h q = either (Each Q) (eqb c (e .cell)) (row c g b false ∷ es) (e ∷ put c g b es) (q, h .1) (h .0, each-put c g b es (h .1) q)
+
+abbrev pub CostRow : Row → Type 0
+CostRow r = Cost (r .g)
+
+pub costs-each : (w : List ℕ) (room n : ℕ) → ((i : ℕ) → i < n → Cost (gIn w room i)) → Each CostRow (rowsIn w room n)
+unfolding rowsIn rowIn
+costs-each w room n f = each-from CostRow (rowIn w room) 0 n (λ j after below. f j (omega arith))
+
+pub each-costs : (w : List ℕ) (room n : ℕ) → Each CostRow (rowsIn w room n) → (i : ℕ) → i < n → Cost (gIn w room i)
+unfolding rowsIn rowIn
+each-costs w room n h i below = let place : 0 + i ≡ i = omega arith in subst (λ (k : ℕ). Cost (gIn w room k)) place (from-each CostRow (rowIn w room) 0 n h i below)
+
+-- ---- an entry is pushed and its row put
+
+abbrev pub sizesOf : ℕ → ℕ → ℕ → Sizes
+sizesOf known waiting count = record { known = known; waiting = waiting; count = count }
+
+abbrev pub entryTo : ℕ → Cell → ℕ → waited.Entry
+entryTo f n g = record { f = f; cell = n; g = g }
+
+module _ (p : Plan) (w h w′ h′ : List ℕ) (z : Sizes) (known f g b : ℕ) (n : Cell) where
+  abbrev rows : List Row
+  rows = rowsIn w (p .known) (z .known)
+
+  -- what the code did
+  pub record Entered : Type 0 where
+    pub good : Good p w h z
+    pub f-cost : Cost f
+    pub g-cost : Cost g
+    pub words : Words n
+    pub unclosed : isClosed (find (rawOf n) rows) ≡ false
+    pub room : z .waiting < p .waiting
+    pub changed : Changed w w′ (p .known) (z .known) known (put (rawOf n) g b rows)
+    pub push : Pushed h h′ (z .waiting) (entryTo f n g)
+
+  pub entered-entries : Entered → entriesIn h′ (z .waiting + 1) ≡ insert (entryFrom (entryTo f n g)) (entriesIn h (z .waiting))
+  entered-entries e =
+      let small = e .f-cost .positive in
+      let less = e .g-cost .positive in
+      entries-pushed h h′ (z .waiting) (entryTo f n g) (record { f-word = omega arith; cell-words = e .words; g-word = omega arith }) (e .push)
+
+  pub entered-good : Entered → Good p w′ h′ (sizesOf known (z .waiting + 1) (z .count))
+  entered-good e =
+      let few : z .waiting + 1 ≤ p .waiting = omega (arith, e .room) in
+      record {
+        rows = e .changed .good;
+        heap = e .push .heap;
+        few = few;
+        small = e .good .small;
+        size = rw (e .push .long) (e .good .size);
+        costs = each-costs w′ (p .known) known
+            (subst (Each CostRow) (sym (e .changed .rows-are)) (each-put CostRow (rawOf n) g b rows (costs-each w (p .known) (z .known) (e .good .costs)) (e .g-cost)));
+        waits = subst (λ (k : List Row). Each (KnownCell k) (entriesIn h′ (z .waiting + 1))) (sym (e .changed .rows-are))
+            (subst (Each (KnownCell (put (rawOf n) g b rows))) (sym (entered-entries e)) (waits-put (rawOf n) g b f rows (entriesIn h (z .waiting)) (e .good .waits)));
+        counted = ap closedIn (e .changed .rows-are) ∙ closed-put (rawOf n) g b rows (e .unclosed) ∙ e .good .counted;
+      }
+
+  module _ (P : Problem) (room-is : P .waitingRoom ≡ p .waiting) (told : Told ℕ) where
+    abbrev flow : Flow
+    flow = push P b (rawOf n) g (stateIn p w h z) told
+
+    pub entered-meets : (x : ℕ) → is x ≡ told → f ≡ plus g x → Entered → Meets P p w h w′ h′ (step.Going (sizesOf known (z .waiting + 1) (z .count))) flow
+    entered-meets x e sum en =
+        let s = stateIn p w h z in
+        let test : ltb (length (entriesIn h (z .waiting))) (P .waitingRoom) ≡ true = (λ i. ltb (length-entries h (z .waiting) i) (room-is i)) ∙ lt-ltb (z .waiting) (p .waiting) (en .room) in
+        let entries = entered-entries en ∙ ap (λ (y : ℕ). insert (record { f = y; cell = rawOf n; g = g }) (entriesIn h (z .waiting))) sum in
+        let here : stateIn p w′ h′ (sizesOf known (z .waiting + 1) (z .count)) ≡ pushed P b (rawOf n) g x s = λ i. state (en .changed .rows-are i) (entries i) (z .count) in
+        record {
+          same = ap going here ∙ sym (ap (λ (t : Bool). cond t (going (pushed P b (rawOf n) g x s)) (stopped (NoRoom Waiting))) test) ∙ ap (push P b (rawOf n) g s) e;
+          good = entered-good en;
+          workspace-length = en .changed .length-kept;
+          heap-length = en .push .long;
+        }
+
+-- ---- a push that is refused
+
+module _ (p : Plan) (w h : List ℕ) (z : Sizes) (c n g : ℕ) (P : Problem) (room-is : P .waitingRoom ≡ p .waiting) (told : Told ℕ) where
+  pub refused-meets : (r : Refusal) → refused r ≡ told → Meets P p w h w h (step.Stopped r) (push P c n g (stateIn p w h z) told)
+  refused-meets r e = record { same = ap (push P c n g (stateIn p w h z)) e; good = tt; workspace-length = refl; heap-length = refl }
+
+  pub full-meets : (x : ℕ) → is x ≡ told → p .waiting ≤ z .waiting → Meets P p w h w h (step.Stopped (NoRoom Waiting)) (push P c n g (stateIn p w h z) told)
+  full-meets x e full =
+      let s = stateIn p w h z in
+      let test : ltb (length (entriesIn h (z .waiting))) (P .waitingRoom) ≡ false = (λ i. ltb (length-entries h (z .waiting) i) (room-is i)) ∙ le-ltb (z .waiting) (p .waiting) full in
+      record {
+        same = sym (ap (λ (t : Bool). cond t (going (pushed P c n g x s)) (stopped (NoRoom Waiting))) test) ∙ ap (push P c n g s) e;
+        good = tt;
+        workspace-length = refl;
+        heap-length = refl;
+      }
+
+-- ---- one neighbour
+
+pub waiting-room : (p : Plan) (flags : List ℕ) (count : ℕ) → problemOf p flags count .waitingRoom ≡ p .waiting
+unfolding planOf
+waiting-room p flags count = refl
+
+module _ (p : Plan) (w h w′ h′ : List ℕ) (z : Sizes) (at f g x : ℕ) (n : Cell) (P : Problem) (room-is : P .waitingRoom ≡ p .waiting) (bytes : Bytes w) (good : Good p w h z) (f-cost : Cost f) (g-cost : Cost g)
+    (sum : f ≡ plus g x) (room : z .waiting < p .waiting) (e : is x ≡ distanceBits (distanceCells n (p .goal))) (pushes : Pushed h h′ (z .waiting) (entryTo f n g)) where
+  -- of a known cell
+  pub renew-meets : (i : ℕ) → i < z .known → rowIn w (p .known) i .closed ≡ false → n ≡ cellIn w (p .known) i
+      → Changed w w′ (p .known) (z .known) (z .known) (put (rawOf (cellIn w (p .known) i)) g (rawOf (cellIn w (p .known) at)) (rowsIn w (p .known) (z .known)))
+      → Meets P p w h w′ h′ (step.Going (sizesOf (z .known) (z .waiting + 1) (z .count))) (push P (rawOf (cellIn w (p .known) at)) (rawOf (cellIn w (p .known) i)) g (stateIn p w h z) (distanceBits (distanceCells (cellIn w (p .known) i) (p .goal))))
+  renew-meets i below unclosed same changed =
+      let d = cellIn w (p .known) i in
+      entered-meets p w h w′ h′ z (z .known) f g (rawOf (cellIn w (p .known) at)) d P room-is (distanceBits (distanceCells d (p .goal))) x (e ∙ ap (λ (c : Cell). distanceBits (distanceCells c (p .goal))) same) sum
+      (record {
+        good = good;
+        f-cost = f-cost;
+        g-cost = g-cost;
+        words = cell-words w (p .known) i bytes;
+        unclosed = ap isClosed (find-row w (p .known) (z .known) (good .rows) bytes i below) ∙ unclosed;
+        room = room;
+        changed = changed;
+        push = subst (λ (c : Cell). Pushed h h′ (z .waiting) (entryTo f c g)) same pushes;
+      })
+
+  -- of a cell that was not known
+  pub fresh-meets : at < z .known → Words n → ((j : ℕ) → j < z .known → cellIn w (p .known) j ≡ n → ⊥)
+      → Changed w w′ (p .known) (z .known) (z .known + 1) (put (rawOf n) g (rawOf (cellIn w′ (p .known) at)) (rowsIn w (p .known) (z .known)))
+      → Meets P p w h w′ h′ (step.Going (sizesOf (z .known + 1) (z .waiting + 1) (z .count))) (push P (rawOf (cellIn w (p .known) at)) (rawOf n) g (stateIn p w h z) (distanceBits (distanceCells n (p .goal))))
+  fresh-meets below words nowhere changed =
+      entered-meets p w h w′ h′ z (z .known + 1) f g (rawOf (cellIn w (p .known) at)) n P room-is (distanceBits (distanceCells n (p .goal))) x e sum
+      (record {
+        good = good;
+        f-cost = f-cost;
+        g-cost = g-cost;
+        words = words;
+        unclosed = ap isClosed (find-no-row w (p .known) (z .known) n bytes words nowhere);
+        room = room;
+        changed = subst (λ (c : Cell). Changed w w′ (p .known) (z .known) (z .known + 1) (put (rawOf n) g (rawOf c) (rowsIn w (p .known) (z .known)))) (changed .cells at below) changed;
+        push = pushes;
+      })

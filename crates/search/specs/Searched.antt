@@ -1,0 +1,13 @@
+-- What a call of the search says, and what stands in the three lent buffers when it returns. Definitions only. Assumes nothing.
+use mathlib.Core.List.{List}
+use Prim.Native.Nat.{ℕ}
+use Rattle.search.specs.declared.SearchAnswer.{SearchAnswer}
+
+pub record Searched : Type 0 where
+  pub said : SearchAnswer
+  pub known : List ℕ
+  pub waiting : List ℕ
+  pub output : List ℕ
+
+abbrev pub searched : SearchAnswer → List ℕ → List ℕ → List ℕ → Searched
+searched a w h l = record { said = a; known = w; waiting = h; output = l }
