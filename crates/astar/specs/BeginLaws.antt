@@ -66,7 +66,7 @@ module _ (p : Plan) (flags : List ℕ) (count : ℕ) (told : Told ℕ) where
           g-cost = no-cost;
           words = words;
           unclosed = refl;
-          room = rooms .waits .some;
+          room = rooms .waits .least;
           changed = changed;
           push = pushes;
         }

@@ -56,7 +56,7 @@ rooms-tested known waiting w h e =
     let sizes = both (leb (44 * known + 64) (length w)) (leb (32 * waiting) (length h)) (tests .1) in
     let few = room-tested known (rooms .0) in
     record {
-      roomy = record { size = omega (arith, leb-true (44 * known + 64) (length w) (sizes .0)); small = few .small; some = few .some };
+      roomy = record { size = omega (arith, leb-true (44 * known + 64) (length w) (sizes .0)); small = few .small; least = few .least };
       waits = room-tested waiting (rooms .1);
       size = leb-true (32 * waiting) (length h) (sizes .1);
     }

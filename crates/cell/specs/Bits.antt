@@ -2,9 +2,10 @@
 use mathlib.Core.Path.{_≡_, refl, sym, ap, _∙_}
 use mathlib.Core.Bool.{Bool, true, false, cond}
 use Prim.Native.Nat.{ℕ, _+_, _*_, _/_, _%_, _^_, _<_}
-use native.Mathlib.Nat.{div-add-mod', div-div-eq-div-mul, div-eq-of-lt, mod-mod, mul-add-div-right, mul-le-mul-right, suc-mul}
+use native.Mathlib.Nat.{div-add-mod', div-div-eq-div-mul, mod-mod, mul-le-mul-right, suc-mul}
 use native.Mathlib.Omega.{arith}
 use borrow.Author.Tests.{ltb-true, ltb-false, lt-ltb, le-ltb, eqb-true, eqb-false, eq-eqb, ne-eqb}
+use lib.Arith.{digits-div}
 use lib.Dec.{eqb, ltb}
 
 -- ---- the low word: x, flags, exponent, resolution, frame
@@ -63,11 +64,8 @@ high-parts z y hz hy = record { is-z = omega arith; is-y = omega arith; is-word 
 ahead : (base : ℕ) {a b c : ℕ} (d : ℕ) → b < base → a < c → a * base + b < c * base + d
 ahead base {a} d h g = omega (arith, suc-mul a base, mul-le-mul-right base g)
 
-high-of : (base a b : ℕ) → b < base → (a * base + b) / base ≡ a
-high-of base a b h = rw (mul-add-div-right {m = base} (omega arith) a b, div-eq-of-lt h) (omega arith)
-
 -- two tests that follow from each other
-agree : (p q : Bool) → (p ≡ true → q ≡ true) → (q ≡ true → p ≡ true) → p ≡ q
+pub agree : (p q : Bool) → (p ≡ true → q ≡ true) → (q ≡ true → p ≡ true) → p ≡ q
 agree true q f g = sym (f refl)
 agree false true f g = g refl
 agree false false f g = refl
@@ -87,7 +85,7 @@ module _ (base a b c d : ℕ) (hb : b < base) (hd : d < base) where
   -- the same number has the same digits
   pub same-digits : a * base + b ≡ c * base + d → (a ≡ c) × (b ≡ d)
   same-digits e =
-      let high : a ≡ c = sym (high-of base a b hb) ∙ ap (λ (n : ℕ). n / base) e ∙ high-of base c d hd in
+      let high : a ≡ c = sym (digits-div a hb) ∙ ap (λ (n : ℕ). n / base) e ∙ digits-div c hd in
       (high, omega (arith, ap (λ (n : ℕ). n * base) high))
 
   less-by : (a ≡ c → ⊥) → (t : Bool) → ltb a c ≡ t → t ≡ ltb (a * base + b) (c * base + d)

@@ -161,7 +161,8 @@ pub record Answers (c : Cell) (a : Children) : Type 0 where
   pub has : HasChildren c
   pub are : a .cells ≡ childCells c
 
-refused-answered : (r : Refusal) → outcome.Refused r ≡ outcome.Answered → ⊥
+-- a refusal is no answer
+pub refused-answered : (r : Refusal) → outcome.Refused r ≡ outcome.Answered → ⊥
 refused-answered r e = let z : _≡_ {A = ℕ} 0 1 = cc in omega arith
 
 answered-in : (c : Cell) (t : Bool) → hasChildRoom (coordOf c) ≡ t → resolutionOf c < 255 → isLatticePoint (coordOf c) ≡ true → childrenIn t c .outcome ≡ outcome.Answered → Answers c (childrenIn t c)

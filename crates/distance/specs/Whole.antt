@@ -8,13 +8,14 @@ use lib.IntN.{ℤ}
 use lib.Dec.{T, leb, leb→le, nleb→lt}
 use lib.Pow.{pow-add, pow-pos, pow-mono, pow-lt}
 use lib.Ieee.{Float, nan, inf, fin, Format, prec, emax, low, up, down, size, nearest, round, sum, add, mul}
-use lib.Ieee.Digits.{size-lt, size-le, back}
+use lib.Ieee.Digits.{size-lt, size-le}
 use lib.Ieee.Fits.{two, down-pos}
 use lib.Ieee.Exact.{HasValue}
 use lib.Ieee.Back.{round-whole}
 use lib.Ieee.Nearest.{closest, closest-mono}
 use lib.Ieee.Order.{drop, kept}
 use lib.Ieee.Scale.{grid, round-val, round-same}
+use Rattle.root.specs.Isqrt.{pow-split}
 
 -- x is a whole number of at most 2 ^ j, not below zero
 pub record WholeTo (j : ℕ) (x : Float) : Type 0 where
@@ -56,10 +57,10 @@ module _ (f : Format) (j n : ℕ) (fine : j < suc (emax f)) (most : n ≤ 2 ^ j)
       let keeps : kept p units 1 ≤ 2 ^ (j + l - k) =
       le-trans
       (closest-mono units (1 * 2 ^ k) (2 ^ (j + l - k)) 1 (mul-pos (zero-lt-suc 0) (pow-pos k)) (zero-lt-suc 0)
-      (le-trans (le-of-eq (mul-one units)) (le-trans top (le-of-eq (split (j + l) k k≤j ∙ ap (λ (u : ℕ). 2 ^ (j + l - k) * u) (sym (one-mul (2 ^ k))))))))
+      (le-trans (le-of-eq (mul-one units)) (le-trans top (le-of-eq (pow-split (j + l) k k≤j ∙ ap (λ (u : ℕ). 2 ^ (j + l - k) * u) (sym (one-mul (2 ^ k))))))))
       (le-of-eq (closest-whole (2 ^ (j + l - k)))) in
-      let in-grid : grid f n 1 ≤ 2 ^ (j + l) = le-trans (mul-le-mul-right (2 ^ k) keeps) (le-of-eq (sym (split (j + l) k k≤j))) in
-      let whole : grid f n 1 ≡ kept p units 1 * 2 ^ (k - l) * 2 ^ l = ap (λ (u : ℕ). kept p units 1 * u) (split k l l≤k) ∙ sym (mul-assoc (kept p units 1) (2 ^ (k - l)) (2 ^ l)) in
+      let in-grid : grid f n 1 ≤ 2 ^ (j + l) = le-trans (mul-le-mul-right (2 ^ k) keeps) (le-of-eq (sym (pow-split (j + l) k k≤j))) in
+      let whole : grid f n 1 ≡ kept p units 1 * 2 ^ (k - l) * 2 ^ l = ap (λ (u : ℕ). kept p units 1 * u) (pow-split k l l≤k) ∙ sym (mul-assoc (kept p units 1) (2 ^ (k - l)) (2 ^ l)) in
       record {
         number = kept p units 1 * 2 ^ (k - l);
         value = in-units (round f false n 1) (kept p units 1 * 2 ^ (k - l)) (2 ^ l) (pow-pos l)
@@ -81,9 +82,6 @@ module _ (f : Format) (j n : ℕ) (fine : j < suc (emax f)) (most : n ≤ 2 ^ j)
 
       over : (j l k : ℕ) → l ≤ k → k ≤ j + l → j + l - k + (k - l) ≡ j
       over j l k h g = omega arith
-
-      split : (a b : ℕ) → b ≤ a → 2 ^ a ≡ 2 ^ (a - b) * 2 ^ b
-      split a b h = ap (λ (u : ℕ). 2 ^ u) (sym (back a b h)) ∙ pow-add 2 (a - b) b
 
 pub rounded-whole : (f : Format) (j n : ℕ) → j < suc (emax f) → n ≤ 2 ^ j → WholeTo j (round f false n 1)
 rounded-whole f j n fine most = go (leb n (2 ^ prec f)) (leb→le n (2 ^ prec f)) (nleb→lt n (2 ^ prec f))

@@ -53,7 +53,7 @@ module _ (l : List ℕ) (room n : ℕ) (c : Cell) where
 
 module _ (l : List ℕ) (room n : ℕ) (c : Cell) (known : Known l room n) (less : n < room) (words : Words c) where
   below : bucketOf c room < room
-  below = bucket-lt c room (known .roomy .some)
+  below = bucket-lt c room (known .roomy .least)
 
   high-new : word little 8 (withRecord l room n c) (recordPlace room n) ≡ c .high
   high-new =
@@ -139,7 +139,7 @@ module _ (l : List ℕ) (room n : ℕ) (c : Cell) (known : Known l room n) (less
       let size = known .roomy .size in
       record {
         known = record {
-          roomy = record { size = omega (arith, length-record l room n c); small = known .roomy .small; some = known .roomy .some };
+          roomy = record { size = omega (arith, length-record l room n c); small = known .roomy .small; least = known .roomy .least };
           count = omega arith;
           chain = chain-added;
         };

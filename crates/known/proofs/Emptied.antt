@@ -25,7 +25,7 @@ none-known l room roomy =
     let long = length-without-heads l room (omega arith) in
     record {
       known = record {
-        roomy = record { size = omega arith; small = roomy .small; some = roomy .some };
+        roomy = record { size = omega arith; small = roomy .small; least = roomy .least };
         count = omega arith;
         chain = chain-none (λ i. bucketOf (cellIn after room i) room) (headIn after) (linkIn after room) room (λ b below. word-zeros little 4 (4 * room) (4 * b) (drop (4 * room) l) (omega arith));
       };

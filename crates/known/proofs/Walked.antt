@@ -34,7 +34,7 @@ module _ (l : List ℕ) (room n : ℕ) (c : Cell) (known : Known l room n) where
   pub walked-none : (b v : ℕ) → b ≡ bucketOf c room → v ≡ headIn l b → Walked l room n c v
   walked-none b v e f =
       subst (Walked l room n c) (sym (f ∙ ap (headIn l) e))
-      (walk-start (λ i. bucketOf (cellIn l room i) room) (λ i. cellIn l room i ≡ c) (on-chain l room c) (known .chain .heads (bucketOf c room) (bucket-lt c room (known .roomy .some))))
+      (walk-start (λ i. bucketOf (cellIn l room i) room) (λ i. cellIn l room i ≡ c) (on-chain l room c) (known .chain .heads (bucketOf c room) (bucket-lt c room (known .roomy .least))))
 
   module _ (v w : ℕ) (walked : Walked l room n c v) (some : 0 < v) (e : w ≡ linkIn l room (v - 1)) where
     linked : Last (λ i. bucketOf (cellIn l room i) room) (bucketOf (cellIn l room (v - 1)) room) (v - 1) w

@@ -51,7 +51,7 @@ knownCells l room n = cellsIn l room 0 n
 pub record Roomy (l : List ℕ) (room : ℕ) : Type 0 where
   pub size : 44 * room ≤ length l
   pub small : room ≤ 65536
-  pub some : 0 < room
+  pub least : 0 < room
 
 pub record Known (l : List ℕ) (room n : ℕ) : Type 0 where
   pub roomy : Roomy l room

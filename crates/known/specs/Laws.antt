@@ -99,7 +99,7 @@ pub known-same : (l l′ : List ℕ) (room n : ℕ) → length l′ ≡ length l
 known-same l l′ room n long cells links heads known =
     let size = known .roomy .size in
     record {
-      roomy = record { size = omega arith; small = known .roomy .small; some = known .roomy .some };
+      roomy = record { size = omega arith; small = known .roomy .small; least = known .roomy .least };
       count = known .count;
       chain = chain-same (λ i. bucketOf (cellIn l room i) room) (headIn l) (linkIn l room) (λ i. bucketOf (cellIn l′ room i) room) (headIn l′) (linkIn l′ room) room n (λ i less. ap (λ (c : Cell). bucketOf c room) (cells i less)) heads links (known .chain);
     }

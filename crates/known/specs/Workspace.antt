@@ -11,7 +11,7 @@ isRoom n = leb 1 n && leb n 65536
 
 -- a room that was tested
 pub record Room (n : ℕ) : Type 0 where
-  pub some : 0 < n
+  pub least : 0 < n
   pub small : n ≤ 65536
 
 -- as many as there are bytes

@@ -12,7 +12,7 @@ use Rattle.known.specs.Workspace.{isRoom, Room, zeros}
 pub room-tested : (n : ℕ) → isRoom n ≡ true → Room n
 room-tested n e =
     let tests = and-eq-true-iff (leb 1 n) (leb n 65536) .0 e in
-    record { some = omega (arith, leb-true 1 n (tests .0)); small = leb-true n 65536 (tests .1) }
+    record { least = omega (arith, leb-true 1 n (tests .0)); small = leb-true n 65536 (tests .1) }
 
 -- bytes of one number have the same zeros
 pub zeros-same : (l m : List ℕ) → length m ≡ length l → zeros m ≡ zeros l

@@ -11,6 +11,7 @@ use mir.Syntax.{w32}
 use mir.Val.{SFits, ofZ}
 use borrow.Author.Tests.{le-leb, ltb-true}
 use Rattle.lattice.specs.Lattice.{isOdd, within, half}
+use Rattle.lattice.specs.Signs.{odd-digit}
 
 -- ---- the remainder by 2
 
@@ -22,11 +23,6 @@ pub mag-half : (z : ℤ) → mag (quotZ z (pos 2)) ≤ mag z
 mag-half (pos a) = div-le-self a 2
 mag-half (negsuc a) = mag-neg (suc a / 2) a (div-le-self (suc a) 2)
 
-odd-up : (r : ℕ) → r < 2 → not (eqb r 0) ≡ eqb r 1
-odd-up zero h = refl
-odd-up (suc zero) h = refl
-odd-up (suc (suc r)) h = absurd (omega arith)
-
 odd-down : (r : ℕ) → r < 2 → not (eqb (ofZ w32 (negℤ (pos r))) 0) ≡ eqb r 1
 odd-down zero h = refl
 odd-down (suc zero) h = refl
@@ -34,7 +30,7 @@ odd-down (suc (suc r)) h = absurd (omega arith)
 
 -- the remainder is not 0 where the number is odd, whatever its sign
 pub odd-rem : (z : ℤ) → not (eqb (ofZ w32 (remZ z (pos 2))) 0) ≡ isOdd z
-odd-rem (pos a) = odd-up (a % 2) (mod-lt a (omega arith))
+odd-rem (pos a) = odd-digit (a % 2) (mod-lt a (omega arith))
 odd-rem (negsuc a) = odd-down (suc a % 2) (mod-lt (suc a) (omega arith))
 
 -- ---- halves

@@ -67,6 +67,12 @@ agree-turned false true false = refl
 agree-turned false false true = refl
 agree-turned false false false = refl
 
+-- a digit that is not 0 is 1
+pub odd-digit : (r : ℕ) → r < 2 → not (eqb r 0) ≡ eqb r 1
+odd-digit zero h = refl
+odd-digit (suc zero) h = refl
+odd-digit (suc (suc r)) h = absurd (omega arith)
+
 digits : (a b : ℕ) → a < 2 → b < 2 → eqb ((a + b) % 2) 1 ≡ either (eqb a 1) (eqb b 1)
 digits zero zero h g = refl
 digits zero (suc zero) h g = refl

@@ -1,11 +1,12 @@
 -- The flags of a cell: bits of a 32-bit word, as the Rust's `CellFlags` has them. Of the scope document: "Only bit 0 blocks." Assumes nothing.
 use mathlib.Core.Path.{_≡_, refl, sym, ap, _∙_}
 use mathlib.Core.Bool.{Bool, false, not}
-use Prim.Native.Nat.{ℕ, zero, suc, _-_, _^_, _%_, _<_}
+use Prim.Native.Nat.{ℕ, _-_, _^_, _%_}
 use native.Mathlib.Nat.{mod-lt}
 use native.Mathlib.Omega.{arith}
 use lib.Bits.{bitAnd, bitOr, and-mask, or-mod, or-zero-r}
 use lib.Dec.{eqb}
+use Rattle.lattice.specs.Signs.{odd-digit}
 
 abbrev pub blocked : ℕ
 blocked = 1
@@ -39,12 +40,7 @@ isBlocked bits = eqb (bits % 2) 1
 
 -- a cell is blocked exactly where it has the flag `blocked`
 pub blocked-is-flag : (bits : ℕ) → isBlocked bits ≡ hasFlag bits blocked
-blocked-is-flag bits = odd (bits % 2) (mod-lt bits (omega arith)) ∙ ap (λ (b : ℕ). not (eqb b 0)) (sym (and-mask bits 1))
-  where
-    odd : (b : ℕ) → b < 2 → eqb b 1 ≡ not (eqb b 0)
-    odd zero h = refl
-    odd (suc zero) h = refl
-    odd (suc (suc b)) h = absurd (omega arith)
+blocked-is-flag bits = sym (odd-digit (bits % 2) (mod-lt bits (omega arith))) ∙ ap (λ (b : ℕ). not (eqb b 0)) (sym (and-mask bits 1))
 
 -- a flag without bit 0 blocks no cell
 pub only-bit-0-blocks : (bits flag : ℕ) → flag % 2 ≡ 0 → isBlocked (withFlag bits flag) ≡ isBlocked bits

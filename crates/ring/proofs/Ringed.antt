@@ -36,7 +36,7 @@ unfolding hasRooms
 rooms-tested known waiting w e =
     let tests = three (isRoom known) (isRoom waiting) (leb (44 * known) (length w)) e in
     let room = room-tested known (tests .0) in
-    record { size = leb-true (44 * known) (length w) (tests .2); small = room .small; some = room .some }
+    record { size = leb-true (44 * known) (length w) (tests .2); small = room .small; least = room .least }
 
 module _ (every : Bool) (center : List ℕ) (k known waiting : ℕ) (w l : List ℕ) where
   ring-by : (b : Bool) → hasRooms known waiting w ≡ b → ringIn every center k known waiting w l ≡ cond b (ringFrom (fromBytesOf center) every k (roomsOf known waiting l) w l) (ringed (count.Refused BadWorkspace) w l)

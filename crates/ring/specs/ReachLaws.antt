@@ -6,7 +6,6 @@ use mathlib.Core.List.{List, [], _∷_, _++_, List·Memᴰ, List·Memᴰ·head, 
 use Prim.Native.Nat.{ℕ, _<_}
 use native.Mathlib.Omega.{arith}
 use Rattle.refusal.specs.declared.Cell.{Cell}
-use Rattle.refusal.specs.declared.Refusal.{Refusal}
 use Rattle.refusal.specs.declared.Refusal.the-variants.{CoordOverflow}
 use Rattle.refusal.specs.declared.Outcome.the-variants as outcome
 use Rattle.lattice.specs.declared.ParityAnswer.{ParityAnswer}
@@ -14,7 +13,7 @@ use Rattle.lattice.specs.declared.ParityAnswer.the-variants as parity
 use Rattle.lattice.specs.Lattice.{parityOf, neighborPlaces, hasNeighborRoom}
 use Rattle.lattice.specs.Laws.{room-fits}
 use Rattle.cell.specs.Cell.{frameOf, resolutionOf, coordOf, plainAt, nearCells, neighborsIn, neighborsBy, neighborsOf}
-use Rattle.cell.specs.Laws.{Words, fields-packed}
+use Rattle.cell.specs.Laws.{Words, fields-packed, refused-answered}
 use Rattle.ring.specs.Reach.{Near, Steps, stay, onward, Distinct, no-cells, one-more}
 
 -- ---- 128 bits
@@ -25,9 +24,6 @@ near-cell-words a b room m =
     let frame : frameOf a < 256 = omega arith in
     let t = Memᴰ·of-map (plainAt (frameOf a) (resolutionOf a)) (neighborPlaces (coordOf a)) m in
     subst Words (t .2) (fields-packed (frameOf a) (resolutionOf a) (t .0) 0 0 frame (omega arith) (omega arith) (room-fits (coordOf a) (t .0) room (t .1)) .words)
-
-refused-answered : (r : Refusal) → outcome.Refused r ≡ outcome.Answered → ⊥
-refused-answered r e = let z : _≡_ {A = ℕ} 0 1 = cc in omega arith
 
 words-in : (a b : Cell) (t : Bool) → hasNeighborRoom (coordOf a) ≡ t → neighborsIn t a .outcome ≡ outcome.Answered → List·Memᴰ b (neighborsIn t a .cells) → Words b
 words-in a b true room e m = near-cell-words a b room m

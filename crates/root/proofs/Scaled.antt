@@ -4,6 +4,7 @@ use mathlib.Core.Bool.{false}
 use Prim.Native.Nat.{ℕ, zero, suc, _+_, _-_, _*_, _/_, _^_, _≤_, _<_}
 use native.Mathlib.Nat.{mul-le-mul, le-trans, le-of-eq, lt-of-lt-of-le, pow-suc}
 use native.Mathlib.Omega.{arith}
+use borrow.Author.Count.{falls-down}
 use lib.Dec.{lit≤}
 use lib.Pow.{pow-add}
 use lib.Ieee.{size, binary64, round}
@@ -21,9 +22,6 @@ pub record Scaled (n q d : ℕ) : Type 0 where
   pub positive : 1 ≤ isqrt n
   pub top : q < 18014398509481984
 
-pred-lt : (z : ℕ) → 0 < z → z - 1 < z
-pred-lt z h = omega arith
-
 module _ {n q d : ℕ} (bound : n < 18446744073709551616) (t : Scaled n q d) (large : 9007199254740992 ≤ q) where
   abbrev p : ℕ
   p = isqrt n
@@ -40,7 +38,7 @@ module _ {n q d : ℕ} (bound : n < 18446744073709551616) (t : Scaled n q d) (la
   second =
       exponent-lt (size p - 1 + t .j) 54 q
       (le-trans (le-of-eq (pow-add 2 (size p - 1) (t .j)))
-      (le-trans (mul-le-mul (size-reaches p (size p - 1) (pred-lt (size p) z-pos)) (le-of-eq (sym (t .power)))) (t .above)))
+      (le-trans (mul-le-mul (size-reaches p (size p - 1) (falls-down (size p) z-pos)) (le-of-eq (sym (t .power)))) (t .above)))
       (t .top)
 
   p-small : size p ≤ 32

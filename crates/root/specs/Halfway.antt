@@ -38,6 +38,9 @@ apart m i (negsuc k) = go (leb (suc k) i) (leb→le (suc k) i) (nleb→lt (suc k
         (ap (λ (x : ℕ). 2 ^ x) (over-i (g tt)) ∙ pow-add 2 (suc (k - i)) i ∙ ap (λ (x : ℕ). x * 2 ^ i) (pow-suc 2 (k - i) ∙ mul-comm (2 ^ (k - i)) 2))
         (pow-pos (k - i))
 
+two : {W : ℕ} → 0 < W → 2 ≤ 2 * W
+two h = omega arith
+
 module _ {m M P Y D : ℕ} (small : m < 9007199254740992) (many : 4503599627370496 ≤ M) (Ppos : 0 < P) where
   step-up : Apart m P Y D → M * D < Y * P → suc M * D ≤ Y * P
   step-up (coarse K e) h =
@@ -49,9 +52,6 @@ module _ {m M P Y D : ℕ} (small : m < 9007199254740992) (many : 45035996273704
       let c : M * 2 ≤ M * (2 * W) = mul-le-mul-left M (two w) in
       absurd (clash (M * (2 * W)) b c)
     where
-      two : 0 < W → 2 ≤ 2 * W
-      two h = omega arith
-
       clash : (x : ℕ) → x < m → M * 2 ≤ x → ⊥
       clash x h k = omega arith
 
@@ -65,9 +65,6 @@ module _ {m M P Y D : ℕ} (small : m < 9007199254740992) (many : 45035996273704
       pred h = omega arith
   step-down (fine W y d w) h = go (eq-or-lt-of-le many)
     where
-      two : 0 < W → 2 ≤ 2 * W
-      two h = omega arith
-
       enough : 4503599627370496 < M → m ≤ (M - 1) * 2
       enough h = omega arith
 

@@ -1,10 +1,10 @@
 -- The integer square root: `isqrt n` is the largest s with s * s ≤ n, and the only such. Assumes nothing.
 use mathlib.Core.Path.{_≡_, refl, sym, ap, _∙_}
 use mathlib.Core.Bool.{Bool, true, false, not, cond}
-use Prim.Native.Nat.{ℕ, zero, suc, _+_, _*_, _/_, _^_, _≤_, _<_}
-use native.Mathlib.Nat.{mul-suc, suc-mul, mul-assoc, mul-comm, mul-left-comm, mul-mul-mul-comm, mul-le-mul, le-trans, lt-of-lt-of-le, not-le-of-lt, lt-of-not-le, le-antisymm, le-of-suc-le-suc, pow-suc, pow-le-pow-left}
+use Prim.Native.Nat.{ℕ, zero, suc, _+_, _-_, _*_, _/_, _^_, _≤_, _<_}
+use native.Mathlib.Nat.{mul-suc, suc-mul, mul-assoc, mul-comm, mul-left-comm, mul-mul-mul-comm, mul-le-mul, le-trans, lt-of-lt-of-le, not-le-of-lt, lt-of-not-le, le-antisymm, le-of-suc-le-suc, pow-suc, pow-le-pow-left, sub-add-cancel}
 use native.Mathlib.Omega.{arith}
-use lib.Pow.{pow-mono}
+use lib.Pow.{pow-add, pow-mono}
 use lib.Dec.{T, leb, leb→le, nleb→lt, lit≤}
 use lib.Ieee.{size}
 use lib.Ieee.Digits.{size-lt}
@@ -67,6 +67,9 @@ pub four-pow : (j : ℕ) → 2 ^ j * 2 ^ j ≡ 4 ^ j
 four-pow zero = refl
 four-pow (suc j) =
     ap (λ (x : ℕ). x * x) (pow-suc 2 j ∙ mul-comm (2 ^ j) 2) ∙ sq-two (2 ^ j) ∙ mul-comm 4 (2 ^ j * 2 ^ j) ∙ ap (λ (x : ℕ). x * 4) (four-pow j) ∙ sym (pow-suc 4 j)
+
+pub pow-split : (a b : ℕ) → b ≤ a → 2 ^ a ≡ 2 ^ (a - b) * 2 ^ b
+pow-split a b h = ap (λ (x : ℕ). 2 ^ x) (sym (sub-add-cancel h)) ∙ pow-add 2 (a - b) b
 
 pub exponent-lt : (a b q : ℕ) → 2 ^ a ≤ q → q < 2 ^ b → a < b
 exponent-lt a b q h k = lt-of-not-le (λ (g : b ≤ a). not-le-of-lt k (le-trans (pow-mono g) h))

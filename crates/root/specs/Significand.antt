@@ -4,15 +4,16 @@ use mathlib.Core.Path.{_≡_, refl, sym, ap, _∙_, subst}
 use mathlib.Core.Logic.{_⊎_, inl, inr}
 use mathlib.Core.Bool.{false}
 use Prim.Native.Nat.{ℕ, suc, _+_, _-_, _*_, _/_, _^_, _≤_, _<_}
-use native.Mathlib.Nat.{one-mul, mul-assoc, mul-comm, mul-left-comm, mul-mul-mul-comm, mul-le-mul-right, mul-lt-mul-of-pos-right, mul-pos, le-trans, le-of-eq, lt-of-lt-of-le, lt-of-le-of-lt, eq-or-lt-of-le, pow-suc, sub-add-cancel}
+use native.Mathlib.Nat.{one-mul, mul-assoc, mul-comm, mul-left-comm, mul-mul-mul-comm, mul-le-mul-right, mul-lt-mul-of-pos-right, mul-pos, le-trans, le-of-eq, lt-of-lt-of-le, lt-of-le-of-lt, eq-or-lt-of-le, pow-suc}
 use native.Mathlib.Omega.{arith}
+use borrow.Author.Count.{falls-down}
 use lib.Dec.{lit<}
 use lib.Pow.{pow-add, pow-pos, pow-mono, pow-lt, shl-lt}
 use lib.Ieee.{binary64, size, round}
 use lib.Ieee.Digits.{size-lt, size-le, size-reaches}
 use lib.Ieee.Exact.{HasValue, round-exact}
 use Rattle.root.specs.Root.{isqrt, shift, signif, rootWhole}
-use Rattle.root.specs.Isqrt.{IsRoot, sq-suc, sq-two, root-le, isqrt-is, sq-le, sq-lt-of, four-pow, exponent-lt}
+use Rattle.root.specs.Isqrt.{IsRoot, sq-suc, sq-two, root-le, isqrt-is, sq-le, sq-lt-of, four-pow, pow-split, exponent-lt}
 
 -- P: the power of two below the point
 abbrev pub unit : ℕ → ℕ
@@ -49,15 +50,12 @@ module _ (n : ℕ) (first : 1 ≤ n) (last : n ≤ 18446744073709551616) where
       let p = isqrt n in
       let j = shift n in
       let z = size p in
-      let lead : 2 ^ (z - 1) ≤ p = size-reaches p (z - 1) (down-one z z-pos) in
+      let lead : 2 ^ (z - 1) ≤ p = size-reaches p (z - 1) (falls-down z z-pos) in
       let e : z - 1 + j ≡ 53 = total z j z-pos shift-is in
       le-trans (le-of-eq (ap (λ (x : ℕ). 2 ^ x) (sym e) ∙ pow-add 2 (z - 1) j))
       (le-trans (mul-le-mul-right (2 ^ j) lead)
       (root-le (n * 4 ^ j) (p * 2 ^ j) q (le-trans (le-of-eq (scaled p)) (mul-le-mul-right (4 ^ j) (isqrt-is n .low))) (q-root .high)))
     where
-      down-one : (z : ℕ) → 0 < z → z - 1 < z
-      down-one z h = omega arith
-
       total : (z j : ℕ) → 0 < z → j + z ≡ 54 → z - 1 + j ≡ 53
       total z j h e = omega arith
 
@@ -141,21 +139,18 @@ module _ (n : ℕ) (first : 1 ≤ n) (last : n ≤ 18446744073709551616) where
       small : (j : ℕ) → j ≤ 54 → j - 1 ≤ 1074
       small j h = omega arith
 
-      split : (i : ℕ) → i ≤ 1074 → 2 ^ 1074 ≡ 2 ^ (1074 - i) * 2 ^ i
-      split i h = ap (λ (x : ℕ). 2 ^ x) (sym (sub-add-cancel h)) ∙ pow-add 2 (1074 - i) i
-
       room : (i : ℕ) → 53 + (1074 - i) ≤ 2098
       room i = omega arith
 
       exact : (M i : ℕ) → i ≤ 1074 → (M ≡ 9007199254740992) ⊎ (M < 9007199254740992) → HasValue (round binary64 false M (2 ^ i)) false M (2 ^ i)
       exact M i h (inr l) =
           round-exact binary64 false M (2 ^ i) M (1074 - i) (pow-pos i) l (lt-of-lt-of-le (shl-lt 53 (1074 - i) l) (pow-mono (room i)))
-          (ap (λ (x : ℕ). M * x) (split i h) ∙ sym (mul-assoc M (2 ^ (1074 - i)) (2 ^ i)))
+          (ap (λ (x : ℕ). M * x) (pow-split 1074 i h) ∙ sym (mul-assoc M (2 ^ (1074 - i)) (2 ^ i)))
       exact M i h (inl e) =
           subst (λ (x : ℕ). HasValue (round binary64 false x (2 ^ i)) false x (2 ^ i)) (sym e)
           (round-exact binary64 false 9007199254740992 (2 ^ i) 1 (53 + (1074 - i)) (pow-pos i) (lit< tt)
           (subst (λ (x : ℕ). x < 2 ^ 2098) (sym (one-mul (2 ^ (53 + (1074 - i))))) (pow-lt (room' i)))
-          (ap (λ (x : ℕ). 9007199254740992 * x) (split i h) ∙ sym (mul-assoc 9007199254740992 (2 ^ (1074 - i)) (2 ^ i)) ∙ ap (λ (x : ℕ). x * 2 ^ i) (sym (one-mul (2 ^ (53 + (1074 - i))) ∙ pow-add 2 53 (1074 - i)))))
+          (ap (λ (x : ℕ). 9007199254740992 * x) (pow-split 1074 i h) ∙ sym (mul-assoc 9007199254740992 (2 ^ (1074 - i)) (2 ^ i)) ∙ ap (λ (x : ℕ). x * 2 ^ i) (sym (one-mul (2 ^ (53 + (1074 - i))) ∙ pow-add 2 53 (1074 - i)))))
         where
           room' : (i : ℕ) → 53 + (1074 - i) < 2098
           room' i = omega arith

@@ -16,7 +16,7 @@ use Rattle.refusal.specs.Table.{rawOf}
 use Rattle.lattice.specs.Lattice.{Fitting, isLatticePoint, within, neighborPlaces}
 use Rattle.lattice.specs.Signs.{both, three, within-mag}
 use Rattle.cell.specs.Cell.{frameOf, resolutionOf, exponentOf, flagsOf, reservedOf, coordOf, isPlain, plainAt, plainTwin, sameCell}
-use Rattle.cell.specs.Bits.{lowWord, low-whole}
+use Rattle.cell.specs.Bits.{lowWord, low-whole, agree}
 use Rattle.cell.specs.Laws.{Words, fields-packed, coord-fits, plain-twin, plain-is-plain, same-cell}
 use Rattle.route.specs.Route.{fitting, amongPlaces, isStep}
 use Rattle.route.specs.Accepted.{Step}
@@ -160,8 +160,3 @@ step-tests a b s =
 -- the place of a, the lower bits of b, the square of the distance: no neighbour is made
 pub step-tested : (a b : Cell) → Words b → stepTests a b ≡ isStep a b
 step-tested a b w = agree (stepTests a b) (isStep a b) (λ e. is-step a b w (tests-step a b e)) (λ e. step-tests a b (step-is a b w e))
-  where
-    agree : (s t : Bool) → (s ≡ true → t ≡ true) → (t ≡ true → s ≡ true) → s ≡ t
-    agree true t f g = sym (f refl)
-    agree false true f g = g refl
-    agree false false f g = refl

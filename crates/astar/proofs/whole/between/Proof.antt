@@ -28,7 +28,7 @@ returns c =
     let at-run-from-start = at-end .before .before .before .before .before .before .before in
     let entry = at-run-from-start .before .before .before .before .before .before .before in
     let args = entry .args in
-    (at-end .end .ensures ∙ answers (args .output .now) (sym (ran-result (args .plan) (args .flags .now) (args .count) (record { high-word = omega (arith, entry .good); low-word = omega (arith, entry .good) }) (entry .pre .rooms .roomy .some) (entry .pre .rooms .waits .some) _ _ _ _ _ (at-run-from-start .run-from-start .ensures))), (at-run-from-start .run-from-start .ensures .met .workspace-length, at-run-from-start .run-from-start .ensures .met .heap-length))
+    (at-end .end .ensures ∙ answers (args .output .now) (sym (ran-result (args .plan) (args .flags .now) (args .count) (record { high-word = omega (arith, entry .good); low-word = omega (arith, entry .good) }) (entry .pre .rooms .roomy .least) (entry .pre .rooms .waits .least) _ _ _ _ _ (at-run-from-start .run-from-start .ensures))), (at-run-from-start .run-from-start .ensures .met .workspace-length, at-run-from-start .run-from-start .ensures .met .heap-length))
 
 pub between-spec : {M : Type 1} → statement M
 between-spec =
