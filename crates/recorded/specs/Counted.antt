@@ -6,5 +6,5 @@ use Rattle.recorded.specs.declared.Tally.{Tally}
 -- So many records are counted, no more of them differ than there are, and the first that does is none behind the last.
 pub record Counted (records : ℕ) (t : Tally) : Type 0 where
   pub whole : t .answers ≡ records
-  pub some : t .differ ≤ records
+  pub differing : t .differ ≤ records
   pub within : t .first ≤ records
