@@ -6,7 +6,7 @@ use Prim.Native.Nat.{ℕ, _-_, _≤_, _<_}
 -- v is the last index below m in bucket b
 pub record Last (h : ℕ → ℕ) (b m v : ℕ) : Type 0 where
   pub bound : v ≤ m
-  pub none : (j : ℕ) → v ≤ j → j < m → h j ≡ b → ⊥
+  pub later : (j : ℕ) → v ≤ j → j < m → h j ≡ b → ⊥
   pub hit : 0 < v → h (v - 1) ≡ b
 
 pub record Chain (h head next : ℕ → ℕ) (room n : ℕ) : Type 0 where

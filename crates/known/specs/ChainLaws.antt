@@ -12,7 +12,7 @@ use Rattle.known.specs.Chain.{Last, Chain, Walk}
 module _ (h : ℕ → ℕ) (P : ℕ → Type 0) where
   -- it starts at the head of the one bucket where P can hold
   pub walk-start : {b n v : ℕ} → ((j : ℕ) → P j → h j ≡ b) → Last h b n v → Walk h P b n v
-  walk-start f last = record { bound = last .bound; passed = λ j from below p. last .none j from below (f j p); hit = last .hit }
+  walk-start f last = record { bound = last .bound; passed = λ j from below p. last .later j from below (f j p); hit = last .hit }
 
   -- and goes from an index without P to the one before it in the bucket
   pub walk-next : {b n v w : ℕ} → ((j : ℕ) → P j → h j ≡ b) → Walk h P b n v → 0 < v → (P (v - 1) → ⊥) → Last h (h (v - 1)) (v - 1) w → Walk h P b n w
@@ -26,7 +26,7 @@ module _ (h : ℕ → ℕ) (P : ℕ → Type 0) where
     where
       by-place : (j : ℕ) → w ≤ j → j < n → P j → Dec (j ≡ v - 1) → Dec (j < v) → ⊥
       by-place j from below p (yes here) before = not-here (subst P here p)
-      by-place j from below p (no other) (yes before) = last .none j from (omega arith) (f j p ∙ sym (walk .hit some))
+      by-place j from below p (no other) (yes before) = last .later j from (omega arith) (f j p ∙ sym (walk .hit some))
       by-place j from below p (no other) (no after) = walk .passed j (omega arith) below p
 
 -- ---- chains
@@ -36,7 +36,7 @@ pub last-same : {h k : ℕ → ℕ} {b m v : ℕ} → ((j : ℕ) → j < m → k
 last-same {h} {k} {b} {m} {v} same last =
     record {
       bound = last .bound;
-      none = λ j from below e. last .none j from below (sym (same j below) ∙ e);
+      later = λ j from below e. last .later j from below (sym (same j below) ∙ e);
       hit = λ some. same (v - 1) (omega arith) ∙ last .hit some;
     }
 
@@ -54,7 +54,7 @@ chain-none h head next room none =
     record {
       heads = λ b below.
           let z = none b below in
-          record { bound = omega arith; none = λ j from less e. omega arith; hit = λ some. absurd (omega arith) };
+          record { bound = omega arith; later = λ j from less e. omega arith; hit = λ some. absurd (omega arith) };
       nexts = λ i less. absurd (omega arith);
     }
 
@@ -73,7 +73,7 @@ module _ (h head next h′ head′ next′ : ℕ → ℕ) (room n b : ℕ) (chai
   head-of-bucket k v q e =
       record {
         bound = omega arith;
-        none = λ j from below z. omega arith;
+        later = λ j from below z. omega arith;
         hit = λ some. let place : v - 1 ≡ n = omega arith in ap h′ place ∙ longer .bucket-new ∙ sym q;
       }
 
@@ -82,13 +82,13 @@ module _ (h head next h′ head′ next′ : ℕ → ℕ) (room n b : ℕ) (chai
       let same = last-same {h = h} {k = h′} (longer .bucket-old) last in
       record {
         bound = omega arith;
-        none = λ j from below e. by-place j from below e (ℕ-discrete j n) same;
+        later = λ j from below e. by-place j from below e (ℕ-discrete j n) same;
         hit = same .hit;
       }
     where
       by-place : (j : ℕ) → v ≤ j → j < n + 1 → h′ j ≡ k → Dec (j ≡ n) → Last h′ k n v → ⊥
       by-place j from below e (yes new) same = other (sym e ∙ ap h′ new ∙ longer .bucket-new)
-      by-place j from below e (no old) same = same .none j from (omega arith) e
+      by-place j from below e (no old) same = same .later j from (omega arith) e
 
   heads-longer : (k : ℕ) → k < room → Last h′ k (n + 1) (head′ k)
   heads-longer k below = by-bucket (ℕ-discrete k b)
