@@ -1,6 +1,4 @@
 mod Copies
 mod Halves
-mod Answers
-mod Moved
-mod Rewritten
+pub mod Moved
 pub mod OneAnswer

@@ -25,7 +25,7 @@ pub extern "C" fn tishkolan_flags_set(
 ) -> CountTold
     ensures { λ t. ⌜ changed t (now (table .exit)) ≡ saying (ofCount count) (setIn 20 (now (table .entry)) count (now (cell .entry)) flags) ⌝ }
 {
-    told::layers::of_count(count, layer::changes::set_flags(table, count, cell, flags))
+    told::layers::of_count(count, keep::changes::set_flags(table, count, cell, flags))
 }
 
 // The flags of a cell, if there are any.
@@ -33,7 +33,7 @@ pub extern "C" fn tishkolan_flags_set(
 pub extern "C" fn tishkolan_flags_get(table: &[u8], count: usize, cell: &[u8]) -> KeptTold
     ensures { λ t. ⌜ t ≡ ofFlagsKept count count (ofFlags (heldIn 20 (now (table .entry)) count (now (cell .entry)))) ⌝ }
 {
-    told::layers::of_flags_kept(count, count, layer::get_flags(table, count, cell))
+    told::layers::of_flags_kept(count, count, keep::get_flags(table, count, cell))
 }
 
 // A cell forgotten, and what was kept of it.
@@ -44,7 +44,7 @@ pub extern "C" fn tishkolan_flags_remove(table: &mut [u8], count: usize, cell: &
     told::layers::of_flags_kept(
         count,
         one_less(count),
-        layer::changes::remove_flags(table, count, cell),
+        keep::changes::remove_flags(table, count, cell),
     )
 }
 
@@ -53,7 +53,7 @@ pub extern "C" fn tishkolan_flags_remove(table: &mut [u8], count: usize, cell: &
 pub extern "C" fn tishkolan_flags_contains(table: &[u8], count: usize, cell: &[u8]) -> NumberTold
     ensures { λ t. ⌜ t ≡ ofContained (ofContains (heldIn 20 (now (table .entry)) count (now (cell .entry)))) ⌝ }
 {
-    told::layers::of_contained(layer::contains_flags(table, count, cell))
+    told::layers::of_contained(keep::contains_flags(table, count, cell))
 }
 
 // How many cells a flag layer has.
@@ -61,7 +61,7 @@ pub extern "C" fn tishkolan_flags_contains(table: &[u8], count: usize, cell: &[u
 pub extern "C" fn tishkolan_flags_count(table: &[u8], count: usize) -> CountTold
     ensures { λ t. ⌜ t ≡ ofCount count (countIn 20 (now (table .entry)) count) ⌝ }
 {
-    told::layers::of_count(count, layer::count_flags(table, count))
+    told::layers::of_count(count, keep::count_flags(table, count))
 }
 
 // Whether a flag layer has no cells.
@@ -69,7 +69,7 @@ pub extern "C" fn tishkolan_flags_count(table: &[u8], count: usize) -> CountTold
 pub extern "C" fn tishkolan_flags_is_empty(table: &[u8], count: usize) -> NumberTold
     ensures { λ t. ⌜ t ≡ ofEmpty (emptyIn 20 (now (table .entry)) count) ⌝ }
 {
-    told::layers::of_empty(layer::is_empty_flags(table, count))
+    told::layers::of_empty(keep::is_empty_flags(table, count))
 }
 
 // A flag layer without cells.
@@ -77,7 +77,7 @@ pub extern "C" fn tishkolan_flags_is_empty(table: &[u8], count: usize) -> Number
 pub extern "C" fn tishkolan_flags_clear(table: &mut [u8])
     ensures { λ _. ⌜ now (table .exit) ≡ clearIn 20 (now (table .entry)) ⌝ }
 {
-    layer::clear_flags(table);
+    keep::clear_flags(table);
 }
 
 // The records of a flag layer.
@@ -85,7 +85,7 @@ pub extern "C" fn tishkolan_flags_clear(table: &mut [u8])
 pub extern "C" fn tishkolan_flags_list(table: &[u8], count: usize, out: &mut [u8]) -> CountTold
     ensures { λ t. ⌜ changed t (now (out .exit)) ≡ saying (ofCount count) (listIn 20 (now (table .entry)) count (now (out .entry))) ⌝ }
 {
-    told::layers::of_count(count, layer::list_flags(table, count, out))
+    told::layers::of_count(count, keep::list_flags(table, count, out))
 }
 
 // The bits of a cell's value from now on.
@@ -98,7 +98,7 @@ pub extern "C" fn tishkolan_values_set(
 ) -> CountTold
     ensures { λ t. ⌜ changed t (now (table .exit)) ≡ saying (ofCount count) (setIn 24 (now (table .entry)) count (now (cell .entry)) bits) ⌝ }
 {
-    told::layers::of_count(count, layer::changes::set_value(table, count, cell, bits))
+    told::layers::of_count(count, keep::changes::set_value(table, count, cell, bits))
 }
 
 // The bits of a cell's value, if there are any.
@@ -106,7 +106,7 @@ pub extern "C" fn tishkolan_values_set(
 pub extern "C" fn tishkolan_values_get(table: &[u8], count: usize, cell: &[u8]) -> KeptTold
     ensures { λ t. ⌜ t ≡ ofValueKept count count (ofValue (heldIn 24 (now (table .entry)) count (now (cell .entry)))) ⌝ }
 {
-    told::layers::of_value_kept(count, count, layer::get_value(table, count, cell))
+    told::layers::of_value_kept(count, count, keep::get_value(table, count, cell))
 }
 
 // A cell forgotten, and what was kept of it.
@@ -117,7 +117,7 @@ pub extern "C" fn tishkolan_values_remove(table: &mut [u8], count: usize, cell: 
     told::layers::of_value_kept(
         count,
         one_less(count),
-        layer::changes::remove_value(table, count, cell),
+        keep::changes::remove_value(table, count, cell),
     )
 }
 
@@ -126,7 +126,7 @@ pub extern "C" fn tishkolan_values_remove(table: &mut [u8], count: usize, cell: 
 pub extern "C" fn tishkolan_values_contains(table: &[u8], count: usize, cell: &[u8]) -> NumberTold
     ensures { λ t. ⌜ t ≡ ofContained (ofContains (heldIn 24 (now (table .entry)) count (now (cell .entry)))) ⌝ }
 {
-    told::layers::of_contained(layer::contains_value(table, count, cell))
+    told::layers::of_contained(keep::contains_value(table, count, cell))
 }
 
 // How many cells a value layer has.
@@ -134,7 +134,7 @@ pub extern "C" fn tishkolan_values_contains(table: &[u8], count: usize, cell: &[
 pub extern "C" fn tishkolan_values_count(table: &[u8], count: usize) -> CountTold
     ensures { λ t. ⌜ t ≡ ofCount count (countIn 24 (now (table .entry)) count) ⌝ }
 {
-    told::layers::of_count(count, layer::count_values(table, count))
+    told::layers::of_count(count, keep::count_values(table, count))
 }
 
 // Whether a value layer has no cells.
@@ -142,7 +142,7 @@ pub extern "C" fn tishkolan_values_count(table: &[u8], count: usize) -> CountTol
 pub extern "C" fn tishkolan_values_is_empty(table: &[u8], count: usize) -> NumberTold
     ensures { λ t. ⌜ t ≡ ofEmpty (emptyIn 24 (now (table .entry)) count) ⌝ }
 {
-    told::layers::of_empty(layer::is_empty_values(table, count))
+    told::layers::of_empty(keep::is_empty_values(table, count))
 }
 
 // A value layer without cells.
@@ -150,7 +150,7 @@ pub extern "C" fn tishkolan_values_is_empty(table: &[u8], count: usize) -> Numbe
 pub extern "C" fn tishkolan_values_clear(table: &mut [u8])
     ensures { λ _. ⌜ now (table .exit) ≡ clearIn 24 (now (table .entry)) ⌝ }
 {
-    layer::clear_values(table);
+    keep::clear_values(table);
 }
 
 // The records of a value layer.
@@ -158,5 +158,5 @@ pub extern "C" fn tishkolan_values_clear(table: &mut [u8])
 pub extern "C" fn tishkolan_values_list(table: &[u8], count: usize, out: &mut [u8]) -> CountTold
     ensures { λ t. ⌜ changed t (now (out .exit)) ≡ saying (ofCount count) (listIn 24 (now (table .entry)) count (now (out .entry))) ⌝ }
 {
-    told::layers::of_count(count, layer::list_values(table, count, out))
+    told::layers::of_count(count, keep::list_values(table, count, out))
 }

@@ -1,4 +1,4 @@
--- What `layer` says and leaves, told. Assumes nothing.
+-- What `keep` says and leaves, told. Assumes nothing.
 use borrow.Author.Needs.{needs}
 use mathlib.Core.Path.{ap, _∙_}
 use Prim.Native.Nat.{ℕ, _-_}

@@ -1,4 +1,4 @@
--- What `layer` says and leaves, told. Assumes nothing.
+-- What `keep` says and leaves, told. Assumes nothing.
 use borrow.Author.Needs.{needs}
 use Rattle.layer.specs.ChangeLaws.{said-as}
 use Rattle.told.specs.Layers.{ofCount}

@@ -1,0 +1,3 @@
+mod Answers
+mod Rewritten
+pub mod OneAnswer
