@@ -1,11 +1,12 @@
 // A list whose records are calls by themselves, replayed one by one: each call is made anew and must say what its record expects.
 ghost use Prim.Native.Nat.{_+_, _/_, _≤_};
 ghost use lib.ListN.{length};
-ghost use Rattle.recorded.specs.Counted.{Counted};
+ghost use Rattle.replay.specs.Counted.{Counted};
 use crate::cells;
 use crate::paths;
+use crate::recorded;
+use crate::recorded::Tally;
 use crate::searches;
-use recorded::Tally;
 
 // What the records of a list are.
 pub enum Form {

@@ -2,8 +2,9 @@
 // vectors/src/layers.rs has the format of a record and the numbers of the calls.
 ghost use Prim.Native.Nat.{_/_};
 ghost use lib.ListN.{length};
-ghost use Rattle.recorded.specs.Counted.{Counted};
-use recorded::Tally;
+ghost use Rattle.replay.specs.Counted.{Counted};
+use crate::recorded;
+use crate::recorded::Tally;
 use tishkolan::aggregates;
 use tishkolan::layers;
 use told::KeptTold;

@@ -1,13 +1,14 @@
 // Replays the four lists of the Rust oracle's answers that its arguments name, of points and cells, of layers, of rings and lines, and of searches, and
 // prints of each how many of the calls answer otherwise. They were made by `oracle/build` and `target/oracle/checked/vectors crates/replay/data`, from
 // the Rust files of oracle/octaindex3d with the patches of oracle/patches; tests/run makes them anew and compares.
+use crate::recorded::Tally;
 use libc::STDOUT_FILENO;
-use recorded::Tally;
 
 mod cells;
 mod each;
 mod layers;
 mod paths;
+mod recorded;
 mod searches;
 
 // The numbers of the arguments that name the lists.

@@ -2,9 +2,10 @@
 // vectors/src/paths.rs has the format of a record and the numbers of the calls.
 ghost use Prim.Native.Nat.{_/_, _≤_};
 ghost use lib.ListN.{length};
-ghost use Rattle.recorded.specs.Counted.{Counted};
+ghost use Rattle.replay.specs.Counted.{Counted};
 use crate::each::Form;
-use recorded::Tally;
+use crate::recorded;
+use crate::recorded::Tally;
 use tishkolan::paths;
 use tishkolan::rings;
 use told::CountTold;

@@ -2,10 +2,11 @@
 // 64 bytes of what is expected, then the flag layer, then the route. vectors/src/searches.rs has the format of both and the numbers of the calls.
 ghost use Prim.Native.Nat.{_/_, _≤_};
 ghost use lib.ListN.{length};
-ghost use Rattle.recorded.specs.Counted.{Counted};
-ghost use Rattle.recorded.specs.Searches.{recordBytes};
+ghost use Rattle.replay.specs.Counted.{Counted};
+ghost use Rattle.replay.specs.Searches.{recordBytes};
 use crate::each::Form;
-use recorded::Tally;
+use crate::recorded;
+use crate::recorded::Tally;
 use tishkolan::searches;
 use told::SearchTold;
 

@@ -1,7 +1,7 @@
 -- Each turn counts one record of the list.
 use borrow.Author.Needs.{needs}
 use Prim.Native.Nat.{_≤_, _-_}
-use Rattle.recorded.specs.Counted.{Counted}
+use Rattle.replay.specs.Counted.{Counted}
 use Rattle.replay.proofs.each.replay_each.Statement.{statement}
 use Rattle.replay.proofs.each.replay_each.Tie as tie
 

@@ -1,7 +1,7 @@
 -- Each turn counts one record of the list; of the tables nothing has to hold.
 use borrow.Author.Needs.{needs}
 use Prim.Native.Nat.{_≤_, _-_}
-use Rattle.recorded.specs.Counted.{Counted}
+use Rattle.replay.specs.Counted.{Counted}
 use Rattle.replay.proofs.layers.replay.Statement.{statement}
 use Rattle.replay.proofs.layers.replay.Tie as tie
 

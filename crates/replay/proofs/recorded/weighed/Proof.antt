@@ -3,8 +3,8 @@ use borrow.Author.Needs.{needs}
 use native.Mathlib.Omega.{arith}
 use native.Mathlib.Nat.{mul-le-mul}
 use Prim.Native.Nat.{ℕ, _+_, _*_, _<_, _≤_}
-use Rattle.recorded.proofs.weighed.Statement.{statement}
-use Rattle.recorded.proofs.weighed.Tie as tie
+use Rattle.replay.proofs.recorded.weighed.Statement.{statement}
+use Rattle.replay.proofs.recorded.weighed.Tie as tie
 
 weight-below : (place byte : ℕ) → place < 3200 → byte < 256 → (place + 1) * byte < 819200
 weight-below place byte p b =

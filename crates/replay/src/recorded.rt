@@ -3,7 +3,7 @@
 // their own.
 ghost use Prim.Native.Nat.{_+_, _≤_, _<_};
 ghost use lib.ListN.{length};
-ghost use Rattle.recorded.specs.Counted.{Counted};
+ghost use Rattle.replay.specs.Counted.{Counted};
 use cell::twos;
 use told::BitsTold;
 use told::CoordTold;

@@ -1,23 +1,21 @@
--- As `filled`, of numbers.
+-- Each turn passes one byte, and nothing has to hold from turn to turn.
 use borrow.Author.Needs.{needs}
 use Prim.Native.Nat.{_-_}
-use Rattle.recorded.proofs.kept_numbers.Statement.{statement}
-use Rattle.recorded.proofs.kept_numbers.Tie as tie
+use lib.ListN.{length}
+use Rattle.replay.proofs.recorded.filled.Statement.{statement}
+use Rattle.replay.proofs.recorded.filled.Tie as tie
 
 abbrev Inv-loop : tie.InvT-loop
-Inv-loop out from i₀ i = Unit {0}
+Inv-loop bytes byte i₀ i = Unit {0}
 
 abbrev μ-loop : tie.MeasureT-loop
-μ-loop out from i₀ i = 256 - i
+μ-loop bytes byte i₀ i = length bytes - i
 
 loop-holds : tie.Need-loop-holds Inv-loop μ-loop
 loop-holds c = search needs
 
-mul-if1 : tie.Need-mul-if1 Inv-loop μ-loop
-mul-if1 c = search needs
-
-element-copy-out-if1 : tie.Need-element-copy-out-if1 Inv-loop μ-loop
-element-copy-out-if1 c = search needs
+shared-slice-read-if1 : tie.Need-shared-slice-read-if1 Inv-loop μ-loop
+shared-slice-read-if1 c = search needs
 
 returns : tie.Need-returns Inv-loop μ-loop
 returns c = search needs
@@ -34,15 +32,14 @@ loop-again c = search needs
 returns-2 : tie.Need-returns-2 Inv-loop μ-loop
 returns-2 c = search needs
 
-pub kept-numbers-spec : {M : Type 1} → statement M
-kept-numbers-spec =
+pub filled-spec : {M : Type 1} → statement M
+filled-spec =
     tie.close
     (tie.spec
     Inv-loop
     μ-loop
     loop-holds
-    mul-if1
-    element-copy-out-if1
+    shared-slice-read-if1
     returns
     add-i
     loop-less

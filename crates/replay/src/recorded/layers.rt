@@ -57,8 +57,8 @@ pub fn cleared() -> KeptTold {
 
 // No refusal of these calls carries coordinates.
 fn same_refusal(record: &[u8; 64], told: RefusalTold) -> bool {
-    told.number == crate::wide(record[2])
-        && told.room == crate::wide(record[3])
+    told.number == crate::recorded::wide(record[2])
+        && told.room == crate::recorded::wide(record[3])
         && told.x == 0
         && told.y == 0
         && told.z == 0
@@ -66,21 +66,21 @@ fn same_refusal(record: &[u8; 64], told: RefusalTold) -> bool {
 
 pub fn same_kept(record: &[u8; 64], told: KeptTold) -> bool {
     same_refusal(record, told.refusal)
-        && told.found == crate::wide(record[4])
-        && told.kept == crate::bits(record, 32)
-        && told.count == crate::bits(record, 40)
+        && told.found == crate::recorded::wide(record[4])
+        && told.kept == crate::recorded::bits(record, 32)
+        && told.count == crate::recorded::bits(record, 40)
 }
 
 pub fn same_table(record: &[u8; 64], table: &[u8]) -> bool
     requires { ⌜ length (now table) ≤ 192 ⌝ }
 {
-    crate::check_number(table) == crate::bits(record, 48)
+    crate::recorded::check_number(table) == crate::recorded::bits(record, 48)
 }
 
 // ---- what a call is asked
 
 pub fn cell_bytes(record: &[u8; 64]) -> &[u8] {
-    crate::slice(record, 8, 16)
+    crate::recorded::slice(record, 8, 16)
 }
 
 // The record's cell, then those of the table's 8 records.

@@ -3,7 +3,7 @@
 ghost use mathlib.Core.Path.{_≡_};
 ghost use Prim.Native.Nat.{_≤_};
 ghost use lib.ListN.{length};
-ghost use Rattle.recorded.specs.Searches.{recordBytes};
+ghost use Rattle.replay.specs.Searches.{recordBytes};
 use told::SearchTold;
 
 // The most bytes of an output and of the two workspaces.
@@ -16,18 +16,18 @@ pub const WAITING: usize = 12800;
 // ---- whether what is told and written is what the body expects
 
 fn same_ends(expected: &[u8; 64], told: SearchTold) -> bool {
-    told.start_high == crate::bits(expected, 8)
-        && told.start_low == crate::bits(expected, 16)
-        && told.goal_high == crate::bits(expected, 24)
-        && told.goal_low == crate::bits(expected, 32)
+    told.start_high == crate::recorded::bits(expected, 8)
+        && told.start_low == crate::recorded::bits(expected, 16)
+        && told.goal_high == crate::recorded::bits(expected, 24)
+        && told.goal_low == crate::recorded::bits(expected, 32)
 }
 
 pub fn same_told(expected: &[u8; 64], told: SearchTold) -> bool {
-    crate::same_path_refusal(expected, told.refusal)
-        && told.cells == crate::count_at(expected, 42) as u64
-        && told.cost == crate::bits(expected, 56)
-        && told.expansions == crate::room_at(expected, 4) as u64
-        && told.limit == crate::count_at(expected, 0) as u64
+    crate::recorded::same_path_refusal(expected, told.refusal)
+        && told.cells == crate::recorded::count_at(expected, 42) as u64
+        && told.cost == crate::recorded::bits(expected, 56)
+        && told.expansions == crate::recorded::room_at(expected, 4) as u64
+        && told.limit == crate::recorded::count_at(expected, 0) as u64
         && same_ends(expected, told)
 }
 
@@ -38,21 +38,22 @@ pub fn same_output(route: &[u8], output: &[u8; 512]) -> bool {
         return false;
     }
     let whole = &output[..];
-    crate::same_bytes(&whole[0..written], route) && crate::filled(&whole[written..], crate::BEFORE)
+    crate::recorded::same_bytes(&whole[0..written], route)
+        && crate::recorded::filled(&whole[written..], crate::recorded::BEFORE)
 }
 
 pub fn same_known(expected: &[u8; 64], workspace: &[u8; 17664], length: usize) -> bool
     requires { ⌜ length ≤ 17664 ⌝ }
 {
     let whole = &workspace[..];
-    crate::same_workspace(expected, &whole[0..length])
+    crate::recorded::same_workspace(expected, &whole[0..length])
 }
 
 pub fn same_waiting(expected: &[u8; 64], workspace: &[u8; 12800], length: usize) -> bool
     requires { ⌜ length ≤ 12800 ⌝ }
 {
     let whole = &workspace[..];
-    crate::same_workspace(expected, &whole[0..length])
+    crate::recorded::same_workspace(expected, &whole[0..length])
 }
 
 // ---- the list

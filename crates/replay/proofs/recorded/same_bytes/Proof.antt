@@ -3,8 +3,8 @@ use borrow.Author.Needs.{needs}
 use mathlib.Core.Path.{_≡_}
 use Prim.Native.Nat.{_-_}
 use lib.ListN.{length}
-use Rattle.recorded.proofs.same_bytes.Statement.{statement}
-use Rattle.recorded.proofs.same_bytes.Tie as tie
+use Rattle.replay.proofs.recorded.same_bytes.Statement.{statement}
+use Rattle.replay.proofs.recorded.same_bytes.Tie as tie
 
 abbrev Inv-loop : tie.InvT-loop
 Inv-loop one other i₀ i = length one ≡ length other

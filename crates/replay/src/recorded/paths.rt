@@ -8,8 +8,8 @@ pub const OUTPUT: usize = 3200;
 pub const WORKSPACE: usize = 8000;
 
 pub fn same_count(record: &[u8; 64], told: CountTold) -> bool {
-    crate::same_path_refusal(record, told.refusal)
-        && told.count == crate::count_at(record, 42) as u64
+    crate::recorded::same_path_refusal(record, told.refusal)
+        && told.count == crate::recorded::count_at(record, 42) as u64
 }
 
 // The bytes lent of the output have the record's check number.
@@ -17,7 +17,7 @@ pub fn same_output(record: &[u8; 64], output: &[u8; 3200], length: usize) -> boo
     requires { ⌜ length ≤ 3200 ⌝ }
 {
     let whole = &output[..];
-    crate::check_number(&whole[0..length]) == crate::bits(record, 56)
+    crate::recorded::check_number(&whole[0..length]) == crate::recorded::bits(record, 56)
 }
 
 // The bytes lent of the workspace are all zero, or all as they were.
@@ -25,5 +25,5 @@ pub fn same_workspace(record: &[u8; 64], workspace: &[u8; 8000], length: usize) 
     requires { ⌜ length ≤ 8000 ⌝ }
 {
     let whole = &workspace[..];
-    crate::same_workspace(record, &whole[0..length])
+    crate::recorded::same_workspace(record, &whole[0..length])
 }

@@ -3,8 +3,8 @@ use borrow.Author.Needs.{needs}
 use mathlib.Core.Path.{_≡_}
 use Prim.Native.Nat.{_≤_, _-_}
 use lib.ListN.{length}
-use Rattle.recorded.proofs.layers.cells_asked.Statement.{statement}
-use Rattle.recorded.proofs.layers.cells_asked.Tie as tie
+use Rattle.replay.proofs.recorded.layers.cells_asked.Statement.{statement}
+use Rattle.replay.proofs.recorded.layers.cells_asked.Tie as tie
 
 abbrev Inv-loop : tie.InvT-loop
 Inv-loop «record» table cells₀ i₀ cells i = (i ≤ 8) × (length cells ≡ 144)

@@ -1,8 +1,8 @@
 -- Each turn copies one byte of 64.
 use borrow.Author.Needs.{needs}
 use Prim.Native.Nat.{_≤_, _-_}
-use Rattle.recorded.proofs.record_at.Statement.{statement}
-use Rattle.recorded.proofs.record_at.Tie as tie
+use Rattle.replay.proofs.recorded.record_at.Statement.{statement}
+use Rattle.replay.proofs.recorded.record_at.Tie as tie
 
 abbrev Inv-loop : tie.InvT-loop
 Inv-loop list at record₀ i₀ «record» i = i ≤ 64

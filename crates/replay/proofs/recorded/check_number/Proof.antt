@@ -2,8 +2,8 @@
 use borrow.Author.Needs.{needs}
 use Prim.Native.Nat.{_≤_, _*_, _-_}
 use lib.ListN.{length}
-use Rattle.recorded.proofs.check_number.Statement.{statement}
-use Rattle.recorded.proofs.check_number.Tie as tie
+use Rattle.replay.proofs.recorded.check_number.Statement.{statement}
+use Rattle.replay.proofs.recorded.check_number.Tie as tie
 
 abbrev Inv-loop : tie.InvT-loop
 Inv-loop buffer sum₀ i₀ sum i = (i ≤ length buffer) × (sum ≤ 819200 * i)

@@ -1,7 +1,7 @@
 -- What is counted where a list of records is replayed. Definitions only. Assumes nothing.
 use Prim.Native.Nat.{ℕ, _≤_}
 use mathlib.Core.Path.{_≡_}
-use Rattle.recorded.specs.declared.Tally.{Tally}
+use Rattle.replay.specs.declared.recorded.Tally.{Tally}
 
 -- So many records are counted, no more of them differ than there are, and the first that does is none behind the last.
 pub record Counted (records : ℕ) (t : Tally) : Type 0 where

@@ -7,9 +7,9 @@ use mathlib.Core.List.{List}
 use Prim.Native.Nat.{ℕ, _<_, _≤_}
 use lib.ListN.{length}
 use Rattle.words.specs.Word.{big, word}
-use Rattle.recorded.specs.Searches.{recordBytes}
-use Rattle.recorded.proofs.searches.record_bytes.Statement.{statement}
-use Rattle.recorded.proofs.searches.record_bytes.Tie as tie
+use Rattle.replay.specs.Searches.{recordBytes}
+use Rattle.replay.proofs.recorded.searches.record_bytes.Statement.{statement}
+use Rattle.replay.proofs.recorded.searches.record_bytes.Tie as tie
 
 none-whole : (l : List ℕ) → length l < 64 → recordBytes l ≡ 0
 unfolding recordBytes
