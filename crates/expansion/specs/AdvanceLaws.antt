@@ -10,6 +10,7 @@ use lib.Dec.{eqb}
 use Rattle.refusal.specs.declared.Cell.{Cell}
 use Rattle.refusal.specs.declared.Refusal.the-variants.{NoPathFound}
 use Rattle.refusal.specs.Table.{rawOf}
+use Rattle.float.specs.Laws.{either}
 use Rattle.lattice.specs.Tables.{Each}
 use Rattle.waiting.specs.declared.Entry as waited
 use Rattle.waiting.specs.Sorted.{sortedKeys}
@@ -27,7 +28,7 @@ use Rattle.expansion.specs.declared.Sizes.{Sizes}
 use Rattle.expansion.specs.declared.Step.{Step}
 use Rattle.expansion.specs.declared.Step.the-variants as steps
 use Rattle.expansion.specs.State.{entryWith, entriesIn, stateIn, problemOf, Good, Meets}
-use Rattle.expansion.specs.StateLaws.{entryFrom, entries-popped, either, CostRow, costs-each, each-costs, sizesOf}
+use Rattle.expansion.specs.StateLaws.{entryFrom, entries-popped, CostRow, costs-each, each-costs, sizesOf}
 
 -- ---- the cases of the definition
 

@@ -11,6 +11,7 @@ use lib.Ieee.Fits.{round-is, round-fits, add-fits}
 use Rattle.refusal.specs.declared.Cell.{Cell}
 use Rattle.refusal.specs.declared.Coord.{Coord}
 use Rattle.refusal.specs.declared.Refusal.the-variants.{OutOfRange}
+use Rattle.float.specs.Laws.{either}
 use Rattle.lattice.specs.declared.ParityAnswer.{ParityAnswer}
 use Rattle.lattice.specs.declared.ParityAnswer.the-variants as parity
 use Rattle.lattice.specs.Lattice.{parityOf, isOdd}
@@ -35,10 +36,6 @@ abbrev pub Number : Bool → Float → Type 0
 Number s nan = ⊥
 Number s (inf t) = t ≡ s
 Number s (fin t m e) = t ≡ s
-
-either : (P : Float → Type 0) (b : Bool) (x y : Float) → P x → P y → P (cond b x y)
-either P true x y h k = h
-either P false x y h k = k
 
 one-sign : (x : Float) (s t : Bool) → Number s x → Number t x → s ≡ t
 one-sign nan s t h k = absurd h

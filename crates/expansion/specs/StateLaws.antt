@@ -13,6 +13,7 @@ use Rattle.refusal.specs.declared.Refusal.{Refusal}
 use Rattle.refusal.specs.declared.Refusal.the-variants.{NoRoom}
 use Rattle.refusal.specs.declared.Room.the-variants.{Waiting}
 use Rattle.refusal.specs.Table.{rawOf}
+use Rattle.float.specs.Laws.{either}
 use Rattle.lattice.specs.Tables.{Each}
 use Rattle.cell.specs.Laws.{Words}
 use Rattle.waiting.specs.declared.Entry as waited
@@ -81,10 +82,6 @@ unfolding entriesIn
 length-entries h n = length-map (sortedKeys h n) entryWith ∙ length-sortedKeys h n
 
 -- ---- the costs of all rows
-
-pub either : (Q : List Row → Type 0) (b : Bool) (k l : List Row) → Q k → Q l → Q (cond b k l)
-either Q true k l h i = h
-either Q false k l h i = i
 
 module _ (Q : Row → Type 0) where
   each-from : (r : ℕ → Row) (i n : ℕ) → ((j : ℕ) → i ≤ j → j < i + n → Q (r j)) → Each Q (rowsFrom r i n)

@@ -93,13 +93,14 @@ cut-is m e h = uncapped (m * up e / down e) h
     uncapped : (a : ℕ) → a < 18446744073709551616 → min a 18446744073709551615 ≡ a
     uncapped a h = omega arith
 
+-- what holds of both branches holds of either
+pub either : {A : Type 0} (P : A → Type 0) (b : Bool) (x y : A) → P x → P y → P (cond b x y)
+either P true x y h k = h
+either P false x y h k = k
+
 -- ---- a rounding is a number or infinite
 
 module _ (P : Float → Type 0) (finite : (s : Bool) (m : ℕ) (e : ℤ) → P (fin s m e)) (infinite : (s : Bool) → P (inf s)) where
-  either : (b : Bool) (x y : Float) → P x → P y → P (cond b x y)
-  either true x y h k = h
-  either false x y h k = k
-
   at-odd : (d : ℕ) (s : Bool) (q k l : ℕ) → P (odd d s q k l)
   unfolding odd
   at-odd d s zero k l = finite s 0 (pos 0)
@@ -107,7 +108,7 @@ module _ (P : Float → Type 0) (finite : (s : Bool) (m : ℕ) (e : ℤ) → P (
 
   at-units : (f : Format) (s : Bool) (q k : ℕ) → P (units f s q k)
   unfolding units
-  at-units f s q k = either (ltb (q * 2 ^ k) (2 ^ (low f + suc (emax f)))) (odd (suc (prec f)) s q k (low f)) (inf s) (at-odd (suc (prec f)) s q k (low f)) (infinite s)
+  at-units f s q k = either P (ltb (q * 2 ^ k) (2 ^ (low f + suc (emax f)))) (odd (suc (prec f)) s q k (low f)) (inf s) (at-odd (suc (prec f)) s q k (low f)) (infinite s)
 
   -- so what holds of every number and of both infinities holds of it
   pub rounded : (f : Format) (s : Bool) (a b : ℕ) → P (round f s a b)
