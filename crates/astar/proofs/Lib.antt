@@ -1,1 +1,2 @@
 mod OneAnswer
+pub mod Points

@@ -3,10 +3,9 @@
 use mathlib.Core.Path.{_≡_}
 use mathlib.Core.Bool.{true, cond}
 use mathlib.Core.List.{List, [], map}
-use Prim.Native.Nat.{ℕ, _≤_}
+use Prim.Native.Nat.{ℕ}
 use lib.Dec.{leb}
 use lib.ListN.{length}
-use Rattle.refusal.specs.declared.Cell.{Cell}
 use Rattle.refusal.specs.declared.Room.the-variants as room
 use Rattle.refusal.specs.declared.Refusal.the-variants.{NoRoom, BadWorkspace}
 use Rattle.refusal.specs.Table.{rawOf}
@@ -30,12 +29,9 @@ answeredIn (found cs cost n) l =
     cond (leb (length cs) (roomIn l)) (changed (answer.Found (record { cells = length cs; cost = cost; expansions = n })) (cellsLaid (map cellOf cs) l))
     (changed (answer.Refused (NoRoom room.Output)) l)
 
--- the raw numbers of the cells from the start to the cell of record i, and those cells
+-- the raw numbers of the cells from the start to the cell of record i, by the definition
 abbrev pub wayTo : Plan → List ℕ → Sizes → ℕ → List ℕ
 wayTo p w z i = traced (rawOf (p .start)) (z .count) (rowsIn w (p .known) (z .known)) (rawOf (cellIn w (p .known) i)) []
-
-abbrev pub cellsTo : Plan → List ℕ → Sizes → ℕ → List Cell
-cellsTo p w z i = map cellOf (wayTo p w z i)
 
 -- ---- the end of a search
 
@@ -48,5 +44,5 @@ resultShown P p w (step.Going z) = none-found BadWorkspace
 -- a search that has ended, and not where no row of the goal is
 abbrev pub Ended : Plan → List ℕ → Step → Type 0
 Ended p w (step.Stopped r) = Unit {0}
-Ended p w (step.Arrived z) = Rows w (p .known) (z .known) × (z .count ≤ 65536) × (isKnown (find (rawOf (p .goal)) (rowsIn w (p .known) (z .known))) ≡ true)
+Ended p w (step.Arrived z) = Rows w (p .known) (z .known) × (isKnown (find (rawOf (p .goal)) (rowsIn w (p .known) (z .known))) ≡ true)
 Ended p w (step.Going z) = ⊥

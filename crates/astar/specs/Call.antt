@@ -5,7 +5,7 @@
 use mathlib.Core.Path.{_≡_}
 use mathlib.Core.Bool.{Bool, true, cond, _&&_}
 use mathlib.Core.List.{List}
-use Prim.Native.Nat.{ℕ, _+_, _*_, _≤_}
+use Prim.Native.Nat.{ℕ, _+_, _*_}
 use lib.Dec.{leb, ltb}
 use lib.ListN.{length}
 use Rattle.refusal.specs.declared.Cell.{Cell}
@@ -15,26 +15,20 @@ use Rattle.cell.specs.declared.CellAnswer.the-variants as cell
 use Rattle.cell.specs.Bytes.{fromBytesOf}
 use Rattle.layer.specs.Layer.{rowsOf, isSound}
 use Rattle.layer.specs.Changes.{Changed}
-use Rattle.known.specs.Known.{Roomy}
-use Rattle.known.specs.Workspace.{isRoom, Room, zeros}
+use Rattle.known.specs.Workspace.{isRoom, zeros}
 use Rattle.search.specs.Search.{Result, none-found}
 use Rattle.search.specs.Plan.{searchOf}
 use Rattle.search.specs.Searched.{Searched, searched}
 use Rattle.search.specs.declared.SearchAnswer.{SearchAnswer}
 use Rattle.search.specs.declared.SearchAnswer.the-variants as answer
 use Rattle.expansion.specs.declared.Plan.{Plan}
+use Rattle.expansion.specs.Bytes.{Rooms}
 use Rattle.astar.specs.Answer.{answeredIn}
 
 unfoldable pub hasRooms : ℕ → ℕ → List ℕ → List ℕ → Bool
 hasRooms known waiting w h = (isRoom known && isRoom waiting) && (leb (44 * known + 64) (length w) && leb (32 * waiting) (length h))
 
--- two buffers that hold what the caller names room for
-pub record Rooms (known waiting : ℕ) (w h : List ℕ) : Type 0 where
-  pub roomy : Roomy w known
-  pub waits : Room waiting
-  pub size : 32 * waiting ≤ length h
-
--- and a flag layer that is sound: a plan can be searched
+-- rooms that the buffers hold, and a flag layer that is sound: a plan can be searched
 pub record Ready (p : Plan) (w h flags : List ℕ) (n : ℕ) : Type 0 where
   pub rooms : Rooms (p .known) (p .waiting) w h
   pub sound : isSound 20 flags n ≡ true

@@ -2,14 +2,16 @@
 use mathlib.Core.Path.{_≡_, refl, sym, ap, _∙_}
 use mathlib.Core.Bool.{Bool, true, false, cond, _&&_}
 use mathlib.Core.List.{List, [], _∷_}
+use mathlib.Core.Option.{some}
 use Prim.Native.Nat.{ℕ, _+_, _*_, _≤_, _<_}
 use native.Mathlib.Omega.{arith}
 use borrow.Author.Tests.{leb-true, lt-ltb, le-ltb}
 use lib.Dec.{leb}
 use lib.ListN.{length}
 use Rattle.refusal.specs.declared.Cell.{Cell}
+use Rattle.refusal.specs.declared.Room.the-variants as room
 use Rattle.refusal.specs.declared.Refusal.{Refusal}
-use Rattle.refusal.specs.declared.Refusal.the-variants.{BadWorkspace, BadLayer, BadRule}
+use Rattle.refusal.specs.declared.Refusal.the-variants.{NoRoom, BadWorkspace, BadLayer, BadRule}
 use Rattle.refusal.specs.Table.{rawOf}
 use Rattle.lattice.specs.declared.Parity.{Parity}
 use Rattle.lattice.specs.declared.ParityAnswer.{ParityAnswer}
@@ -28,23 +30,28 @@ use Rattle.listing.specs.Laws.{cell-first}
 use Rattle.known.specs.Workspace.{isRoom, zeros}
 use Rattle.known.specs.WorkspaceLaws.{room-tested, zeros-same}
 use Rattle.search.specs.Search.{Result, found, none-found, run, begin}
-use Rattle.search.specs.Plan.{distanceBits, planOf, resultOf, popsFor, resultBy, searchOf}
+use Rattle.search.specs.Plan.{cellOf, distanceBits, planOf, resultOf, popsFor, resultBy, searchOf}
 use Rattle.search.specs.Besides.{cell-raw}
 use Rattle.search.specs.Searched.{searched}
 use Rattle.search.specs.declared.SearchAnswer.{SearchAnswer}
 use Rattle.search.specs.declared.SearchAnswer.the-variants as answer
 use Rattle.astar.specs.Answer.{answeredIn}
-use Rattle.astar.specs.WayLaws.{way-found}
-use Rattle.astar.specs.Call.{hasRooms, Rooms, resultUnder, resultIn, wiped, searchIn}
+use Rattle.astar.specs.WayLaws.{route-refused, route-found, route-answered}
+use Rattle.expansion.specs.Bytes.{Rooms}
+use Rattle.astar.specs.Call.{hasRooms, resultUnder, resultIn, wiped, searchIn}
 
 -- results that are the same have the same answer
 pub answers : {x y : Result} (l : List ℕ) → x ≡ y → answeredIn x l ≡ answeredIn y l
 answers l e = ap (λ (x : Result). answeredIn x l) e
 
 -- a route of one cell
+pub stay-refused : (c : Cell) (l : List ℕ) → roomIn l < 1 → changed (answer.Refused (NoRoom room.Output)) l ≡ answeredIn (found (rawOf c ∷ []) 0 0) l
+stay-refused c l more = route-refused 0 0 l (some (cellOf (rawOf c) ∷ [])) 1 refl more ∙ route-answered (rawOf c ∷ []) 0 0 l
+
 pub stay-found : (c : Cell) (l out : List ℕ) → Words c → 1 ≤ roomIn l → out ≡ cellPut l 0 c → changed (answer.Found (record { cells = 1; cost = 0; expansions = 0 })) out ≡ answeredIn (found (rawOf c ∷ []) 0 0) l
 stay-found c l out words fits put =
-    way-found (rawOf c ∷ []) 0 0 1 l refl 0 out fits refl (put ∙ cell-first c l ∙ ap (λ (d : Cell). cellsLaid (d ∷ []) l) (sym (cell-raw c words)))
+    let laid = put ∙ cell-first c l ∙ ap (λ (d : Cell). cellsLaid (d ∷ []) l) (sym (cell-raw c words)) in
+    route-found 0 0 l (some (cellOf (rawOf c) ∷ [])) 1 0 out refl fits refl laid ∙ route-answered (rawOf c ∷ []) 0 0 l
 
 -- ---- rooms
 

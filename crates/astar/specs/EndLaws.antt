@@ -7,13 +7,19 @@ use Prim.Native.Nat.{ℕ, _≤_, _<_}
 use native.Mathlib.Omega.{arith}
 use Rattle.refusal.specs.declared.Cell.{Cell}
 use Rattle.refusal.specs.declared.Refusal.{Refusal}
+use Rattle.refusal.specs.declared.Refusal.the-variants.{BadWorkspace}
 use Rattle.refusal.specs.Table.{rawOf}
+use Rattle.words.specs.Word.{Bytes}
 use Rattle.cell.specs.Cell.{distanceCells}
 use Rattle.cell.specs.Laws.{Words}
 use Rattle.layer.specs.Changes.{changed}
+use Rattle.known.specs.declared.Found.{Found}
+use Rattle.known.specs.declared.Found.the-variants.{At, Nowhere}
 use Rattle.known.specs.Known.{cellIn}
-use Rattle.rows.specs.Rows.{rowIn, rowsIn}
-use Rattle.search.specs.Search.{Problem, Told, Row, Result, Flow, going, done, found, find, isKnown, gOf, traced, arrived, run, begin}
+use Rattle.known.specs.Seek.{findIn, found-below}
+use Rattle.rows.specs.Rows.{gIn, rowIn, rowsIn, Looked}
+use Rattle.rows.proofs.Looked.{looked-in}
+use Rattle.search.specs.Search.{Problem, Told, Row, Result, done, found, find, isKnown, gOf, traced, arrived, run, begin}
 use Rattle.search.specs.Plan.{planOf, distanceBits, resultOf, popsFor}
 use Rattle.search.specs.Ending.{result-is}
 use Rattle.search.specs.Besides.{cell-raw}
@@ -22,9 +28,28 @@ use Rattle.expansion.specs.declared.Plan.{Plan}
 use Rattle.expansion.specs.declared.Sizes.{Sizes}
 use Rattle.expansion.specs.declared.Step.{Step}
 use Rattle.expansion.specs.declared.Step.the-variants as steps
-use Rattle.expansion.specs.State.{stateIn, problemOf, flowIn, GoodStep, Meets, Ran}
-use Rattle.expansion.specs.AdvanceLaws.{count-small}
+use Rattle.expansion.specs.State.{problemOf, flowIn, GoodStep, Ran}
 use Rattle.astar.specs.Answer.{answeredIn, wayTo, resultShown, Ended}
+use Rattle.astar.specs.Bytes.{routeIn, goalIn, endIn}
+use Rattle.astar.specs.WayLaws.{route-answered, way-back}
+
+-- ---- what the code answered
+
+module _ (p : Plan) (w l : List ℕ) {r : Step} where
+  pub end-stopped : (q : Refusal) → r ≡ steps.Stopped q → changed (answer.Refused q) l ≡ endIn p w r l
+  end-stopped q e = ap (λ (s : Step). endIn p w s l) (sym e)
+
+  pub end-going : (z : Sizes) → r ≡ steps.Going z → changed (answer.Refused BadWorkspace) l ≡ endIn p w r l
+  end-going z e = ap (λ (s : Step). endIn p w s l) (sym e)
+
+  -- the goal was looked up
+  module _ (z : Sizes) (e : r ≡ steps.Arrived z) {x : Found} (looked : x ≡ findIn w (p .known) (z .known) (p .goal)) where
+    pub end-looked : {y : Found} → x ≡ y → goalIn p w z l y ≡ endIn p w r l
+    end-looked same = ap (goalIn p w z l) (sym same ∙ looked) ∙ ap (λ (s : Step). endIn p w s l) (sym e)
+
+    -- a record that is found is a known one
+    pub end-under : (i : ℕ) → x ≡ At i → i < z .known
+    end-under i same = found-below w (p .known) (z .known) (p .goal) x i looked same
 
 -- ---- a search that has come to its goal
 
@@ -32,13 +57,13 @@ module _ (p : Plan) (flags w : List ℕ) (count : ℕ) (z : Sizes) where
   abbrev rows : List Row
   rows = rowsIn w (p .known) (z .known)
 
-  pub arrived-at : (i : ℕ) → cellIn w (p .known) i ≡ p .goal → find (rawOf (p .goal)) rows ≡ some (rowIn w (p .known) i)
+  arrived-at : (i : ℕ) → cellIn w (p .known) i ≡ p .goal → find (rawOf (p .goal)) rows ≡ some (rowIn w (p .known) i)
       → found (wayTo p w z i) (rowIn w (p .known) i .g) (z .count) ≡ resultShown (problemOf p flags count) p w (steps.Arrived z)
   unfolding arrived planOf
   arrived-at i goal row = λ j. found (traced (rawOf (p .start)) (z .count) rows (rawOf (goal j)) []) (gOf (sym row j)) (z .count)
 
 -- where a row is found, one is
-pub never-unknown : {found : Option Row} → isKnown found ≡ true → found ≡ none → ⊥
+never-unknown : {found : Option Row} → isKnown found ≡ true → found ≡ none → ⊥
 never-unknown known nowhere = true≢false (sym known ∙ ap isKnown nowhere)
 
 -- ---- the last step
@@ -49,7 +74,7 @@ Last r = (z : Sizes) → r ≡ steps.Going z → ⊥
 last-ended : (p : Plan) (w h : List ℕ) (r : Step) → GoodStep p w h r → Last r → Ended p w r
 last-ended p w h (steps.Going z) good last = last z refl
 last-ended p w h (steps.Stopped q) good last = tt
-last-ended p w h (steps.Arrived z) good last = (good .0 .rows, count-small (good .0), good .1)
+last-ended p w h (steps.Arrived z) good last = (good .0 .rows, good .1)
 
 -- the entries that wait are no part of a result
 last-shown : (P : Problem) (p : Plan) (w h : List ℕ) (r : Step) → Last r → flowIn P p w h r ≡ done (resultShown P p w r)
@@ -58,28 +83,22 @@ last-shown P p w h (steps.Going z) last = absurd (last z refl)
 last-shown P p w h (steps.Stopped q) last = refl
 last-shown P p w h (steps.Arrived z) last = refl
 
-module _ {P : Problem} {p : Plan} {w₀ h₀ w h : List ℕ} {r : Step} {f : Flow} where
-  pub ran-ended : Ran P p w₀ h₀ w h r f → Ended p w r
-  ran-ended a = last-ended p w h r (a .met .good) (a .last)
+-- ---- the end
 
-  -- a first step that is the last
-  pub met-ran : Meets P p w₀ h₀ w h r f → Last r → Ran P p w₀ h₀ w h r f
-  unfolding run
-  met-ran m last = record { pops = 0; met = m; last = last }
-
-  -- a first step, and then all others
-  pub then-ran : (w₁ h₁ : List ℕ) (z : Sizes) → Meets P p w₀ h₀ w₁ h₁ (steps.Going z) f → Ran P p w₁ h₁ w h r (going (stateIn p w₁ h₁ z)) → Ran P p w₀ h₀ w h r f
-  then-ran w₁ h₁ z m a =
-      record {
-        pops = a .pops;
-        met = record {
-          same = a .met .same ∙ ap (run P (a .pops)) (m .same);
-          good = a .met .good;
-          workspace-length = a .met .workspace-length ∙ m .workspace-length;
-          heap-length = a .met .heap-length ∙ m .heap-length;
-        };
-        last = a .last;
-      }
+-- where a search has ended, the bytes' end is the definition's
+pub end-shown : (p : Plan) (flags w : List ℕ) (count : ℕ) (r : Step) (l : List ℕ) → Ended p w r → Bytes w → Words (p .goal) → endIn p w r l ≡ answeredIn (resultShown (problemOf p flags count) p w r) l
+unfolding rowIn
+end-shown p flags w count (steps.Going z) l ended bytes words = absurd ended
+end-shown p flags w count (steps.Stopped q) l ended bytes words = refl
+end-shown p flags w count (steps.Arrived z) l ended bytes words =
+    by-found (findIn w (p .known) (z .known) (p .goal)) (looked-in w (p .known) (z .known) (p .goal) (ended .0) bytes words)
+  where
+    by-found : (x : Found) → Looked w (p .known) (z .known) (p .goal) x → goalIn p w z l x ≡ answeredIn (resultShown (problemOf p flags count) p w (steps.Arrived z)) l
+    by-found Nowhere looked = absurd (never-unknown (ended .1) (looked .1))
+    by-found (At i) looked =
+        ap (λ (x : Option (List Cell)). routeIn x (gIn w (p .known) i) (z .count) l) (way-back p w (z .known) (ended .0) bytes z i refl (looked .0))
+        ∙ route-answered (wayTo p w z i) (gIn w (p .known) i) (z .count) l
+        ∙ ap (λ (x : Result). answeredIn x l) (arrived-at p flags w count z i (looked .1) (looked .2))
 
 -- ---- the result
 
@@ -102,21 +121,15 @@ module _ (p : Plan) (flags : List ℕ) (count : ℕ) (words : Words (p .start)) 
   unfolding planOf
   waiting-room = omega (arith, some-wait)
 
-  pub ran-result : (w₀ h₀ w h : List ℕ) (r : Step) → Ran P p w₀ h₀ w h r (begin P told) → resultOf (run P (popsFor (p .known) (p .waiting)) (begin P told)) ≡ resultShown P p w r
-  unfolding planOf
-  ran-result w₀ h₀ w h r a =
-      ap (λ (t : Told ℕ). resultOf (run P (popsFor (p .known) (p .waiting)) (begin P t))) (sym told-is)
-      ∙ result-is P known-room waiting-room (resultShown P p w r)
-      (a .pops, ap (λ (t : Told ℕ). run P (a .pops) (begin P t)) told-is ∙ sym (a .met .same) ∙ last-shown P p w h r (a .last))
+  module _ {w₀ h₀ w h : List ℕ} {r : Step} (a : Ran P p w₀ h₀ w h r (begin P told)) where
+    ran-result : resultOf (run P (popsFor (p .known) (p .waiting)) (begin P told)) ≡ resultShown P p w r
+    unfolding planOf
+    ran-result =
+        ap (λ (t : Told ℕ). resultOf (run P (popsFor (p .known) (p .waiting)) (begin P t))) (sym told-is)
+        ∙ result-is P known-room waiting-room (resultShown P p w r)
+        (a .pops, ap (λ (t : Told ℕ). run P (a .pops) (begin P t)) told-is ∙ sym (a .met .same) ∙ last-shown P p w h r (a .last))
 
--- ---- the answer
-
-module _ (p : Plan) (flags w : List ℕ) (count : ℕ) (l : List ℕ) {r : Step} where
-  pub shown-stopped : (q : Refusal) → r ≡ steps.Stopped q → changed (answer.Refused q) l ≡ answeredIn (resultShown (problemOf p flags count) p w r) l
-  shown-stopped q e = ap (λ (s : Step). answeredIn (resultShown (problemOf p flags count) p w s) l) (sym e)
-
-  pub shown-arrived : (z : Sizes) (i : ℕ) → r ≡ steps.Arrived z → cellIn w (p .known) i ≡ p .goal → find (rawOf (p .goal)) (rowsIn w (p .known) (z .known)) ≡ some (rowIn w (p .known) i)
-      → answeredIn (found (wayTo p w z i) (rowIn w (p .known) i .g) (z .count)) l ≡ answeredIn (resultShown (problemOf p flags count) p w r) l
-  shown-arrived z i e goal row =
-      ap (λ (x : Result). answeredIn x l) (arrived-at p flags w count z i goal row)
-      ∙ ap (λ (s : Step). answeredIn (resultShown (problemOf p flags count) p w s) l) (sym e)
+    -- what the bytes of the last step end in is the answer of the definition
+    pub ran-answered : (l : List ℕ) → Bytes w → Words (p .goal) → endIn p w r l ≡ answeredIn (resultOf (run P (popsFor (p .known) (p .waiting)) (begin P told))) l
+    ran-answered l bytes goal-words =
+        end-shown p flags w count r l (last-ended p w h r (a .met .good) (a .last)) bytes goal-words ∙ ap (λ (x : Result). answeredIn x l) (sym ran-result)

@@ -1,16 +1,18 @@
--- The way back, cell by cell: the cells that were passed and those that are still to be traced are the whole route. It is counted, then written from its end: what was written stands
--- between the front and the rest of the output, which are as they were. Assumes nothing.
+-- The way back, record by record: the cells that were passed and the way from here are the whole way. It is counted, then written from its end: what was written stands between the front
+-- and the rest of the output, which are as they were. Where the bytes hold rows, it is the definition's route. Assumes nothing.
 use mathlib.Core.Path.{_≡_, refl, sym, ap, ap₂, _∙_}
 use mathlib.Core.Bool.{Bool, true, false, cond}
 use mathlib.Core.List.{List, [], _∷_, map}
+use mathlib.Core.Logic.{_⊎_, inl, inr, ⊎-elim}
+use mathlib.Core.Option.{Option, none, some}
 use Prim.Native.Nat.{ℕ, zero, suc, _+_, _-_, _*_, _≤_, _<_}
 use native.Mathlib.Omega.{arith}
-use lib.Dec.{eqb}
+use lib.Dec.{leb, ltb, eqb}
 use lib.ListN.{length, length-map}
-use borrow.Author.Tests.{le-leb, lt-leb}
+use borrow.Author.Tests.{le-leb, lt-leb, lt-ltb, le-ltb, ltb-true}
 use Rattle.refusal.specs.declared.Cell.{Cell}
 use Rattle.refusal.specs.declared.Room.the-variants as room
-use Rattle.refusal.specs.declared.Refusal.the-variants.{NoRoom}
+use Rattle.refusal.specs.declared.Refusal.the-variants.{NoRoom, BadWorkspace}
 use Rattle.refusal.specs.Table.{rawOf}
 use Rattle.words.specs.Word.{Bytes}
 use Rattle.cell.specs.Cell.{sameCell}
@@ -19,7 +21,7 @@ use Rattle.listing.specs.Listing.{roomIn, cellsLaid, laidFrom, cellPut}
 use Rattle.listing.specs.Laws.{cells-within, none-laid-from, laid-from-front, length-laid-from, cell-before}
 use Rattle.known.specs.Known.{cellIn}
 use Rattle.known.specs.Laws.{cell-words}
-use Rattle.search.specs.Search.{Row, found, find, beforeOf, traced}
+use Rattle.search.specs.Search.{found, find, beforeOf, traced}
 use Rattle.search.specs.Plan.{cellOf}
 use Rattle.search.specs.Besides.{cell-raw}
 use Rattle.search.specs.declared.SearchAnswer.the-variants as answer
@@ -27,149 +29,179 @@ use Rattle.rows.specs.Rows.{beforeIn, rowIn, rowsIn, Rows}
 use Rattle.rows.specs.RowsLaws.{find-row}
 use Rattle.expansion.specs.declared.Plan.{Plan}
 use Rattle.expansion.specs.declared.Sizes.{Sizes}
-use Rattle.astar.specs.Answer.{answeredIn, wayTo, cellsTo}
+use Rattle.search.specs.Cases.{on-test}
+use Rattle.astar.specs.Answer.{answeredIn, wayTo}
+use Rattle.astar.specs.declared.way.Length.the-variants.{Cells, NoWay}
+use Rattle.astar.specs.Bytes.{wayIn, wayBack, lengthOf, laidIn, routeIn}
 
--- ---- a trace
+-- ---- the steps of a way, with n known records
 
-module _ (s : ℕ) (rows : List Row) where
+module _ (p : Plan) (w : List ℕ) (n : ℕ) where
+  abbrev cell : ℕ → Cell
+  cell at = cellIn w (p .known) at
+
+  abbrev before : ℕ → ℕ
+  before at = beforeIn w (p .known) at
+
   -- it ends at the start
-  traced-start : (m c : ℕ) (later : List ℕ) → eqb c s ≡ true → traced s m rows c later ≡ c ∷ later
-  unfolding traced
-  traced-start zero c later e = refl
-  traced-start (suc m) c later e = rw e refl
+  way-start : (m at : ℕ) (later : List Cell) → sameCell (cell at) (p .start) ≡ true → wayIn p w n m at later ≡ some (cell at ∷ later)
+  unfolding wayIn
+  way-start zero at later e = refl
+  way-start (suc m) at later e = rw e refl
 
   -- and where no step is left
-  traced-out : (m c : ℕ) (later : List ℕ) → m ≤ 0 → traced s m rows c later ≡ c ∷ later
-  unfolding traced
-  traced-out zero c later none = refl
-  traced-out (suc m) c later none = absurd (omega arith)
+  way-out : (m at : ℕ) (later : List Cell) → m ≤ 0 → wayIn p w n m at later ≡ some (cell at ∷ later)
+  unfolding wayIn
+  way-out zero at later none-left = refl
+  way-out (suc m) at later none-left = absurd (omega arith)
 
-  traced-more : (m c : ℕ) (later : List ℕ) → 0 < m → eqb c s ≡ false → traced s m rows c later ≡ traced s (m - 1) rows (beforeOf (find c rows)) (c ∷ later)
-  unfolding traced
-  traced-more m c later some e =
-      let more : m ≡ suc (m - 1) = omega arith in
-      ap (λ (k : ℕ). traced s k rows c later) more ∙ rw e refl
+  module _ (m at : ℕ) (later : List Cell) (some-left : 0 < m) (other : sameCell (cell at) (p .start) ≡ false) where
+    by-before : (b : Bool) → ltb (before at) n ≡ b → wayIn p w n m at later ≡ cond b (wayIn p w n (m - 1) (before at) (cell at ∷ later)) none
+    unfolding wayIn
+    by-before b e =
+        let more : m ≡ suc (m - 1) = omega arith in
+        ap (λ (k : ℕ). wayIn p w n k at later) more ∙ rw (other, e) refl
 
-  -- it has at least its first cell
-  traced-longer : (m c : ℕ) (later : List ℕ) → length later < length (traced s m rows c later)
-  unfolding traced
-  traced-longer zero c later = omega arith
-  traced-longer (suc m) c later = by-start (eqb c s) (traced-longer m (beforeOf (find c rows)) (c ∷ later))
-    where
-      by-start : (t : Bool) → length (c ∷ later) < length (traced s m rows (beforeOf (find c rows)) (c ∷ later)) → length later < length (cond t (c ∷ later) (traced s m rows (beforeOf (find c rows)) (c ∷ later)))
-      by-start true longer = omega arith
-      by-start false longer = omega arith
+    way-more : before at < n → wayIn p w n m at later ≡ wayIn p w n (m - 1) (before at) (cell at ∷ later)
+    way-more less = by-before true (lt-ltb (before at) n less)
 
-  -- one cell is all that is left of it
-  traced-last : (m c : ℕ) (later : List ℕ) → length (traced s m rows c later) ≡ length later + 1 → traced s m rows c later ≡ c ∷ later
-  unfolding traced
-  traced-last zero c later e = refl
-  traced-last (suc m) c later e = by-start (eqb c s) (traced-longer m (beforeOf (find c rows)) (c ∷ later)) e
-    where
-      by-start : (t : Bool) → length (c ∷ later) < length (traced s m rows (beforeOf (find c rows)) (c ∷ later))
-          → length (cond t (c ∷ later) (traced s m rows (beforeOf (find c rows)) (c ∷ later))) ≡ length later + 1
-          → cond t (c ∷ later) (traced s m rows (beforeOf (find c rows)) (c ∷ later)) ≡ c ∷ later
-      by-start true longer e = refl
-      by-start false longer e = absurd (omega arith)
+    -- no record has the number
+    way-broken : n ≤ before at → wayIn p w n m at later ≡ none
+    way-broken more = by-before false (le-ltb (before at) n more)
 
-  -- or more than one
-  traced-onward : (m c : ℕ) (later : List ℕ) → length later + 1 < length (traced s m rows c later)
-      → (n : ℕ) × (traced s m rows c later ≡ traced s n rows (beforeOf (find c rows)) (c ∷ later))
-  unfolding traced
-  traced-onward zero c later longer = absurd (omega arith)
-  traced-onward (suc m) c later longer = (m, by-start (eqb c s) longer)
-    where
-      by-start : (t : Bool) → length later + 1 < length (cond t (c ∷ later) (traced s m rows (beforeOf (find c rows)) (c ∷ later)))
-          → cond t (c ∷ later) (traced s m rows (beforeOf (find c rows)) (c ∷ later)) ≡ traced s m rows (beforeOf (find c rows)) (c ∷ later)
-      by-start true longer = absurd (omega arith)
-      by-start false longer = refl
+  -- ---- a way that is whole
 
--- ---- a trace along the records
+  module _ (cs : List Cell) where
+    abbrev Whole : Option (List Cell) → Type 0
+    Whole x = x ≡ some cs
 
--- `left` steps at most are left from the cell of record `at`, and the cells behind it were passed
-pub record Tracing (p : Plan) (w : List ℕ) (z : Sizes) (i at left : ℕ) (later : List ℕ) : Type 0 where
-  pub below : at < z .known
-  pub whole : wayTo p w z i ≡ traced (rawOf (p .start)) left (rowsIn w (p .known) (z .known)) (rawOf (cellIn w (p .known) at)) later
+    -- its last step, or one to a known record
+    way-step : (m at : ℕ) (later : List Cell) → Whole (wayIn p w n m at later) → (cell at ∷ later ≡ cs) ⊎ ((k : ℕ) × (before at < n) × Whole (wayIn p w n k (before at) (cell at ∷ later)))
+    unfolding wayIn
+    way-step zero at later e = inl (cc)
+    way-step (suc m) at later e =
+        let further = wayIn p w n m (before at) (cell at ∷ later) in
+        let Next : Type 0 = (cell at ∷ later ≡ cs) ⊎ ((k : ℕ) × (before at < n) × Whole (wayIn p w n k (before at) (cell at ∷ later))) in
+        on-test (λ (x : Option (List Cell)). Whole x → Next) (sameCell (cell at) (p .start)) (some (cell at ∷ later)) (cond (ltb (before at) n) further none)
+        (λ t f. inl (cc))
+        (λ t. on-test (λ (x : Option (List Cell)). Whole x → Next) (ltb (before at) n) further none
+        (λ l f. inr (m, ltb-true (before at) n l, f))
+        (λ l f. absurd (let z : _≡_ {A = ℕ} 0 1 = cc in omega arith)))
+        e
 
--- the cell before a record's is that of the record before
-before-row : (w : List ℕ) (room n : ℕ) → Rows w room n → Bytes w → (at b : ℕ) → at < n → b ≡ beforeIn w room at → beforeOf (find (rawOf (cellIn w room at)) (rowsIn w room n)) ≡ rawOf (cellIn w room b)
-unfolding rowIn
-before-row w room n rows bytes at b below e = ap beforeOf (find-row w room n rows bytes at below) ∙ ap (λ (j : ℕ). rawOf (cellIn w room j)) (sym e)
+    -- it has at least its last cell
+    way-longer : (m at : ℕ) (later : List Cell) → Whole (wayIn p w n m at later) → length later < length cs
+    unfolding wayIn
+    way-longer zero at later e = let same : cell at ∷ later ≡ cs = cc in omega (arith, ap length same)
+    way-longer (suc m) at later e =
+        let further = wayIn p w n m (before at) (cell at ∷ later) in
+        on-test (λ (x : Option (List Cell)). Whole x → length later < length cs) (sameCell (cell at) (p .start)) (some (cell at ∷ later)) (cond (ltb (before at) n) further none)
+        (λ t f. let same : cell at ∷ later ≡ cs = cc in omega (arith, ap length same))
+        (λ t. on-test (λ (x : Option (List Cell)). Whole x → length later < length cs) (ltb (before at) n) further none
+        (λ l f. omega (arith, way-longer m (before at) (cell at ∷ later) f))
+        (λ l f. absurd (let z : _≡_ {A = ℕ} 0 1 = cc in omega arith)))
+        e
 
--- so many cells were counted
+    module _ (m at : ℕ) (later : List Cell) (whole : Whole (wayIn p w n m at later)) where
+      -- one cell is all that is left of it
+      way-last : length cs ≡ length later + 1 → cell at ∷ later ≡ cs
+      way-last e = ⊎-elim (λ last. last) (λ on. absurd (omega (arith, way-longer (on .0) (before at) (cell at ∷ later) (on .2)))) (way-step m at later whole)
+
+      -- or more than one
+      way-onward : length later + 1 < length cs → (k : ℕ) × (before at < n) × Whole (wayIn p w n k (before at) (cell at ∷ later))
+      way-onward longer = ⊎-elim (λ last. absurd (omega (arith, ap length last))) (λ on. on) (way-step m at later whole)
+
+-- ---- a way that is counted
+
+-- so many cells were counted; `left` steps at most are left from record `at`
 pub record Counting (p : Plan) (w : List ℕ) (z : Sizes) (i at left cells : ℕ) : Type 0 where
-  pub later : List ℕ
-  pub tracing : Tracing p w z i at left later
+  pub later : List Cell
+  pub below : at < z .known
+  pub whole : wayBack p w z i ≡ wayIn p w (z .known) left at later
   pub counted : cells ≡ length later + 1
   pub together : cells + left ≡ z .count + 1
 
 pub counting-start : {p : Plan} {w : List ℕ} {z : Sizes} {i : ℕ} → i < z .known → Counting p w z i i (z .count) 1
-counting-start below = record { later = []; tracing = record { below = below; whole = refl }; counted = omega arith; together = omega arith }
+counting-start below = record { later = []; below = below; whole = refl; counted = omega arith; together = omega arith }
 
 module _ {p : Plan} {w : List ℕ} {z : Sizes} {i at left cells : ℕ} (a : Counting p w z i at left cells) where
-  abbrev here : ℕ
-  here = rawOf (cellIn w (p .known) at)
+  abbrev here : Cell
+  here = cellIn w (p .known) at
 
-  counted-all : wayTo p w z i ≡ here ∷ a .later → cells ≡ length (wayTo p w z i)
-  counted-all e = omega (arith, a .counted, ap length e)
+  counted-all : wayIn p w (z .known) left at (a .later) ≡ some (here ∷ a .later) → Cells cells ≡ lengthOf (wayBack p w z i)
+  counted-all e =
+      let long : cells ≡ length (here ∷ a .later) = omega (arith, a .counted) in
+      ap Cells long ∙ sym (ap lengthOf (a .whole ∙ e))
 
-  pub counting-out : left ≤ 0 → cells ≡ length (wayTo p w z i)
-  counting-out none = counted-all (a .tracing .whole ∙ traced-out (rawOf (p .start)) (rowsIn w (p .known) (z .known)) left here (a .later) none)
+  pub counting-out : left ≤ 0 → Cells cells ≡ lengthOf (wayBack p w z i)
+  counting-out none-left = counted-all (way-out p w (z .known) left at (a .later) none-left)
 
   module _ (c : Cell) (read : c ≡ cellIn w (p .known) at) where
-    pub counting-ends : sameCell c (p .start) ≡ true → cells ≡ length (wayTo p w z i)
-    counting-ends e =
-        let same = ap (λ (d : Cell). sameCell d (p .start)) (sym read) ∙ e in
-        counted-all (a .tracing .whole ∙ traced-start (rawOf (p .start)) (rowsIn w (p .known) (z .known)) left here (a .later) same)
+    tested-here : {t : Bool} → sameCell c (p .start) ≡ t → sameCell here (p .start) ≡ t
+    tested-here e = ap (λ (d : Cell). sameCell d (p .start)) (sym read) ∙ e
 
-    pub counting-next : Rows w (p .known) (z .known) → Bytes w → 0 < left → sameCell c (p .start) ≡ false → (b : ℕ) → (b ≡ beforeIn w (p .known) at) × (b < z .known) → Counting p w z i b (left - 1) (cells + 1)
-    counting-next rows bytes some e b before =
-        let other = ap (λ (d : Cell). sameCell d (p .start)) (sym read) ∙ e in
-        let back = before-row w (p .known) (z .known) rows bytes at b (a .tracing .below) (before .0) in
-        record {
-          later = here ∷ a .later;
-          tracing = record {
-            below = before .1;
-            whole = a .tracing .whole ∙ traced-more (rawOf (p .start)) (rowsIn w (p .known) (z .known)) left here (a .later) some other
-                ∙ ap (λ (n : ℕ). traced (rawOf (p .start)) (left - 1) (rowsIn w (p .known) (z .known)) n (here ∷ a .later)) back;
-          };
-          counted = omega (arith, a .counted);
-          together = omega (arith, a .together);
-        }
+    pub counting-ends : sameCell c (p .start) ≡ true → Cells cells ≡ lengthOf (wayBack p w z i)
+    counting-ends e = counted-all (way-start p w (z .known) left at (a .later) (tested-here e))
 
--- ---- a route that is written from its end
+    module _ (some-left : 0 < left) (other : sameCell c (p .start) ≡ false) (b : ℕ) (back : b ≡ beforeIn w (p .known) at) where
+      pub counting-broken : z .known ≤ b → NoWay ≡ lengthOf (wayBack p w z i)
+      counting-broken none-has = sym (ap lengthOf (a .whole ∙ way-broken p w (z .known) left at (a .later) some-left (tested-here other) (omega arith)))
+
+      pub counting-next : b < z .known → Counting p w z i b (left - 1) (cells + 1)
+      counting-next less =
+          record {
+            later = here ∷ a .later;
+            below = less;
+            whole = a .whole ∙ way-more p w (z .known) left at (a .later) some-left (tested-here other) (omega arith)
+                ∙ ap (λ (j : ℕ). wayIn p w (z .known) (left - 1) j (here ∷ a .later)) (sym back);
+            counted = omega (arith, a .counted);
+            together = omega (arith, a .together);
+          }
+
+-- ---- a way that is written from its end
+
+-- a length is that of a way
+whole-way : (x : Option (List Cell)) (cells : ℕ) → lengthOf x ≡ Cells cells → (cs : List Cell) × (x ≡ some cs) × (length cs ≡ cells)
+whole-way none cells e = absurd (let z : _≡_ {A = ℕ} 0 1 = cc in omega arith)
+whole-way (some cs) cells e = (cs, refl, cc)
 
 -- the cells that were passed are written; that of record `at` comes to `place`
 pub record Writing (p : Plan) (w : List ℕ) (z : Sizes) (i : ℕ) (entry now : List ℕ) (at place : ℕ) : Type 0 where
   pub left : ℕ
-  pub later : List ℕ
-  pub tracing : Tracing p w z i at left later
-  pub placed : place + 1 + length later ≡ length (wayTo p w z i)
-  pub fits : length (wayTo p w z i) ≤ roomIn entry
-  pub bytes : now ≡ laidFrom (place + 1) (map cellOf later) entry
+  pub later : List Cell
+  pub cells : List Cell
+  pub below : at < z .known
+  pub way : wayBack p w z i ≡ some cells
+  pub whole : wayIn p w (z .known) left at later ≡ some cells
+  pub placed : place + 1 + length later ≡ length cells
+  pub fits : length cells ≤ roomIn entry
+  pub bytes : now ≡ laidFrom (place + 1) later entry
 
-pub way-some : (p : Plan) (w : List ℕ) (z : Sizes) (i : ℕ) → 0 < length (wayTo p w z i)
-way-some p w z i = traced-longer (rawOf (p .start)) (rowsIn w (p .known) (z .known)) (z .count) (rawOf (cellIn w (p .known) i)) []
+module _ (p : Plan) (w : List ℕ) (z : Sizes) (i cells : ℕ) (long : lengthOf (wayBack p w z i) ≡ Cells cells) where
+  pub way-some : 0 < cells
+  way-some = let way = whole-way (wayBack p w z i) cells long in omega (arith, way .2, way-longer p w (z .known) (way .0) (z .count) i [] (way .1))
 
-pub writing-start : {p : Plan} {w : List ℕ} {z : Sizes} {i cells : ℕ} {entry : List ℕ} → i < z .known → cells ≡ length (wayTo p w z i) → cells ≤ roomIn entry → Writing p w z i entry entry i (cells - 1)
-writing-start {p} {w} {z} {i} {cells} {entry} below e within =
-    record {
-      left = z .count;
-      later = [];
-      tracing = record { below = below; whole = refl };
-      placed = omega (arith, e, way-some p w z i);
-      fits = omega (arith, e, within);
-      bytes = sym (none-laid-from (cells - 1 + 1) entry);
-    }
+  pub writing-start : (entry : List ℕ) → i < z .known → cells ≤ roomIn entry → Writing p w z i entry entry i (cells - 1)
+  writing-start entry below within =
+      let way = whole-way (wayBack p w z i) cells long in
+      record {
+        left = z .count;
+        later = [];
+        cells = way .0;
+        below = below;
+        way = way .1;
+        whole = way .1;
+        placed = omega (arith, way .2, way-some);
+        fits = omega (arith, way .2, within);
+        bytes = sym (none-laid-from (cells - 1 + 1) entry);
+      }
 
 module _ {p : Plan} {w : List ℕ} {z : Sizes} {i : ℕ} {entry now : List ℕ} {at place : ℕ} (a : Writing p w z i entry now at place) where
-  abbrev this : ℕ
-  this = rawOf (cellIn w (p .known) at)
+  abbrev this : Cell
+  this = cellIn w (p .known) at
 
   pub writing-length : length now ≡ length entry
-  writing-length =
-      let within : 16 * (place + 1 + length (map cellOf (a .later))) ≤ length entry = cells-within (place + 1 + length (map cellOf (a .later))) entry (omega (arith, a .placed, a .fits, length-map (a .later) cellOf)) in
-      ap length (a .bytes) ∙ length-laid-from (place + 1) (map cellOf (a .later)) entry within
+  writing-length = ap length (a .bytes) ∙ length-laid-from (place + 1) (a .later) entry (cells-within (place + 1 + length (a .later)) entry (omega (arith, a .placed, a .fits)))
 
   within-entry : 16 * (place + 1) ≤ length entry
   within-entry = cells-within (place + 1) entry (omega (arith, a .placed, a .fits))
@@ -177,46 +209,101 @@ module _ {p : Plan} {w : List ℕ} {z : Sizes} {i : ℕ} {entry now : List ℕ} 
   pub writing-within : 16 * (place + 1) ≤ length now
   writing-within = omega (arith, within-entry, writing-length)
 
-  module _ (bytes : Bytes w) (c : Cell) (read : c ≡ cellIn w (p .known) at) (now′ : List ℕ) (put : now′ ≡ cellPut now place c) where
-    cell-written : now′ ≡ laidFrom place (map cellOf (this ∷ a .later)) entry
-    cell-written =
-        let cell = read ∙ sym (cell-raw (cellIn w (p .known) at) (cell-words w (p .known) at bytes)) in
-        put ∙ ap₂ (λ (m : List ℕ) (d : Cell). cellPut m place d) (a .bytes) cell ∙ cell-before place (cellOf this) (map cellOf (a .later)) entry within-entry
+  -- the way is whole, so that there is a known record before
+  onward : 0 < place → (k : ℕ) × (beforeIn w (p .known) at < z .known) × (wayIn p w (z .known) k (beforeIn w (p .known) at) (this ∷ a .later) ≡ some (a .cells))
+  onward more = way-onward p w (z .known) (a .cells) (a .left) at (a .later) (a .whole) (omega (arith, a .placed))
 
-    pub writing-next : Rows w (p .known) (z .known) → 0 < place → (b : ℕ) → (b ≡ beforeIn w (p .known) at) × (b < z .known) → Writing p w z i entry now′ b (place - 1)
-    writing-next rows some b before =
-        let onward = traced-onward (rawOf (p .start)) (rowsIn w (p .known) (z .known)) (a .left) this (a .later) (omega (arith, a .placed, ap length (a .tracing .whole))) in
-        let back = before-row w (p .known) (z .known) rows bytes at b (a .tracing .below) (before .0) in
+  module _ (c : Cell) (read : c ≡ cellIn w (p .known) at) (now′ : List ℕ) where
+    cell-written : now′ ≡ cellPut now place c → now′ ≡ laidFrom place (this ∷ a .later) entry
+    cell-written put = put ∙ ap₂ (λ (m : List ℕ) (d : Cell). cellPut m place d) (a .bytes) read ∙ cell-before place this (a .later) entry within-entry
+
+    pub writing-next : now′ ≡ cellPut now place c → 0 < place → (b : ℕ) → b ≡ beforeIn w (p .known) at → Writing p w z i entry now′ b (place - 1)
+    writing-next put more b back =
+        let on = onward more in
         let same : place ≡ place - 1 + 1 = omega arith in
         record {
-          left = onward .0;
+          left = on .0;
           later = this ∷ a .later;
-          tracing = record {
-            below = before .1;
-            whole = a .tracing .whole ∙ onward .1 ∙ ap (λ (n : ℕ). traced (rawOf (p .start)) (onward .0) (rowsIn w (p .known) (z .known)) n (this ∷ a .later)) back;
-          };
+          cells = a .cells;
+          below = omega (arith, on .1, back);
+          way = a .way;
+          whole = ap (λ (j : ℕ). wayIn p w (z .known) (on .0) j (this ∷ a .later)) back ∙ on .2;
           placed = omega (arith, a .placed);
           fits = a .fits;
-          bytes = cell-written ∙ ap (λ (k : ℕ). laidFrom k (map cellOf (this ∷ a .later)) entry) same;
+          bytes = cell-written put ∙ ap (λ (k : ℕ). laidFrom k (this ∷ a .later) entry) same;
         }
 
-  -- none is left
-  pub writing-last : Bytes w → (c : Cell) → c ≡ cellIn w (p .known) at → (now′ : List ℕ) → now′ ≡ cellPut now 0 c → place ≤ 0 → now′ ≡ cellsLaid (cellsTo p w z i) entry
-  writing-last bytes c read now′ put none =
-      let zeroth : place ≡ 0 = omega arith in
-      let last = a .tracing .whole ∙ traced-last (rawOf (p .start)) (rowsIn w (p .known) (z .known)) (a .left) this (a .later) (omega (arith, a .placed, ap length (a .tracing .whole))) in
-      cell-written bytes c read now′ (put ∙ ap (λ (k : ℕ). cellPut now k c) (sym zeroth))
-      ∙ ap (λ (k : ℕ). laidFrom k (map cellOf (this ∷ a .later)) entry) zeroth
-      ∙ laid-from-front (map cellOf (this ∷ a .later)) entry
-      ∙ ap (λ (cs : List ℕ). cellsLaid (map cellOf cs) entry) (sym last)
+    -- none is left
+    pub writing-last : now′ ≡ cellPut now 0 c → place ≤ 0 → now′ ≡ laidIn (wayBack p w z i) entry
+    writing-last put none-left =
+        let zeroth : place ≡ 0 = omega arith in
+        let last = way-last p w (z .known) (a .cells) (a .left) at (a .later) (a .whole) (omega (arith, a .placed)) in
+        cell-written (put ∙ ap (λ (k : ℕ). cellPut now k c) (sym zeroth))
+        ∙ ap (λ (k : ℕ). laidFrom k (this ∷ a .later) entry) zeroth
+        ∙ laid-from-front (this ∷ a .later) entry
+        ∙ ap (λ (cs : List Cell). cellsLaid cs entry) last
+        ∙ ap (λ (x : Option (List Cell)). laidIn x entry) (sym (a .way))
 
 -- ---- the answer
 
-module _ (cs : List ℕ) (cost n cells : ℕ) (l : List ℕ) (counted : cells ≡ length cs) where
-  pub way-refused : roomIn l < cells → changed (answer.Refused (NoRoom room.Output)) l ≡ answeredIn (found cs cost n) l
-  way-refused more = rw (lt-leb (length cs) (roomIn l) (omega (arith, more, counted))) refl
+module _ (g n : ℕ) (l : List ℕ) where
+  pub route-broken : (x : Option (List Cell)) → NoWay ≡ lengthOf x → changed (answer.Refused BadWorkspace) l ≡ routeIn x g n l
+  route-broken none e = refl
+  route-broken (some cs) e = absurd (let z : _≡_ {A = ℕ} 0 1 = cc in omega arith)
 
-  pub way-found : (g : ℕ) (out : List ℕ) → cells ≤ roomIn l → g ≡ cost → out ≡ cellsLaid (map cellOf cs) l → changed (answer.Found (record { cells = cells; cost = g; expansions = n })) out ≡ answeredIn (found cs cost n) l
-  way-found g out fits e laid =
-      rw (le-leb (length cs) (roomIn l) (omega (arith, fits, counted)))
-      (λ k. changed (answer.Found (record { cells = counted k; cost = e k; expansions = n })) (laid k))
+  pub route-refused : (x : Option (List Cell)) (cells : ℕ) → Cells cells ≡ lengthOf x → roomIn l < cells → changed (answer.Refused (NoRoom room.Output)) l ≡ routeIn x g n l
+  route-refused none cells e more = absurd (let z : _≡_ {A = ℕ} 0 1 = cc in omega arith)
+  route-refused (some cs) cells e more = let long : cells ≡ length cs = cc in rw (lt-leb (length cs) (roomIn l) (omega arith)) refl
+
+  pub route-found : (x : Option (List Cell)) (cells cost : ℕ) (out : List ℕ) → Cells cells ≡ lengthOf x → cells ≤ roomIn l → cost ≡ g → out ≡ laidIn x l
+      → changed (answer.Found (record { cells = cells; cost = cost; expansions = n })) out ≡ routeIn x g n l
+  route-found none cells cost out e fits paid laid = absurd (let z : _≡_ {A = ℕ} 0 1 = cc in omega arith)
+  route-found (some cs) cells cost out e fits paid laid =
+      let long : cells ≡ length cs = cc in
+      rw (le-leb (length cs) (roomIn l) (omega arith)) (λ k. changed (answer.Found (record { cells = long k; cost = paid k; expansions = n })) (laid k))
+
+-- ---- the definition's route
+
+-- cells by their raw numbers
+pub route-answered : (cs : List ℕ) (g n : ℕ) (l : List ℕ) → routeIn (some (map cellOf cs)) g n l ≡ answeredIn (found cs g n) l
+route-answered cs g n l =
+    ap (λ (k : ℕ). cond (leb k (roomIn l)) (changed (answer.Found (record { cells = k; cost = g; expansions = n })) (cellsLaid (map cellOf cs) l)) (changed (answer.Refused (NoRoom room.Output)) l))
+    (length-map cs cellOf)
+
+module _ (p : Plan) (w : List ℕ) (n : ℕ) (rows : Rows w (p .known) n) (bytes : Bytes w) where
+  abbrev raw : ℕ → ℕ
+  raw at = rawOf (cellIn w (p .known) at)
+
+  abbrev rest : ℕ → ℕ → List ℕ → List ℕ
+  rest m c later = traced (rawOf (p .start)) m (rowsIn w (p .known) n) c later
+
+  -- a record's cell is that of its raw number
+  cell-same : (at : ℕ) → cellIn w (p .known) at ≡ cellOf (raw at)
+  cell-same at = sym (cell-raw (cellIn w (p .known) at) (cell-words w (p .known) at bytes))
+
+  -- the cell before a record's is that of the record before
+  before-row : (at : ℕ) → at < n → beforeOf (find (raw at) (rowsIn w (p .known) n)) ≡ raw (beforeIn w (p .known) at)
+  unfolding rowIn
+  before-row at below = ap beforeOf (find-row w (p .known) n rows bytes at below)
+
+  -- where the bytes hold rows, there is a way, and it is the definition's
+  pub way-traced : (m at : ℕ) (later : List ℕ) → at < n → wayIn p w n m at (map cellOf later) ≡ some (map cellOf (rest m (raw at) later))
+  unfolding wayIn traced
+  way-traced zero at later below = ap (λ (c : Cell). some (c ∷ map cellOf later)) (cell-same at)
+  way-traced (suc m) at later below =
+      let back = rows .back at below in
+      let on = way-traced m (beforeIn w (p .known) at) (raw at ∷ later) back in
+      rw (lt-ltb (beforeIn w (p .known) at) n back)
+      (by-start (eqb (raw at) (rawOf (p .start))) (rest m (beforeOf (find (raw at) (rowsIn w (p .known) n))) (raw at ∷ later))
+      (ap (λ (c : Cell). wayIn p w n m (beforeIn w (p .known) at) (c ∷ map cellOf later)) (cell-same at)
+      ∙ on
+      ∙ ap (λ (c : ℕ). some (map cellOf (rest m c (raw at ∷ later)))) (sym (before-row at below))))
+    where
+      by-start : (t : Bool) (cs : List ℕ) {x : Option (List Cell)} → x ≡ some (map cellOf cs) → cond t (some (cellIn w (p .known) at ∷ map cellOf later)) x ≡ some (map cellOf (cond t (raw at ∷ later) cs))
+      by-start true cs e = ap (λ (c : Cell). some (c ∷ map cellOf later)) (cell-same at)
+      by-start false cs e = e
+
+  pub way-back : (z : Sizes) (i : ℕ) → n ≡ z .known → i < n → wayBack p w z i ≡ some (map cellOf (wayTo p w z i))
+  way-back z i e below =
+      ap (λ (k : ℕ). wayIn p w k (z .count) i []) (sym e) ∙ way-traced (z .count) i [] below
+      ∙ ap (λ (k : ℕ). some (map cellOf (traced (rawOf (p .start)) (z .count) (rowsIn w (p .known) k) (raw i) []))) e

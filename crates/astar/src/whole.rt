@@ -10,9 +10,11 @@ ghost use Rattle.layer.specs.Changes.{changed};
 ghost use Rattle.search.specs.Search.{begin, run, found};
 ghost use Rattle.search.specs.Plan.{distanceBits, resultOf, popsFor, searchOf};
 ghost use Rattle.search.specs.Searched.{searched};
-ghost use Rattle.expansion.specs.State.{problemOf, Meets, Ran};
-ghost use Rattle.astar.specs.Answer.{answeredIn, resultShown, Ended};
-ghost use Rattle.astar.specs.Call.{hasRooms, Rooms, Ready, resultUnder, resultIn, searchIn};
+ghost use Rattle.expansion.specs.State.{problemOf};
+ghost use Rattle.astar.specs.Answer.{answeredIn};
+ghost use Rattle.expansion.specs.Bytes.{Rooms};
+ghost use Rattle.astar.specs.Bytes.{beginIn, wholeIn, endIn, SizedEnd};
+ghost use Rattle.astar.specs.Call.{hasRooms, Ready, resultUnder, resultIn, searchIn};
 use crate::way;
 use cell::CellAnswer;
 use expansion::Estimate;
@@ -29,9 +31,9 @@ use search::SearchAnswer;
 use waiting::Entry;
 
 // The start is known and waits.
-fn begin(workspace: &mut [u8], heap: &mut [u8], flags: &[u8], count: usize, plan: Plan) -> Step
+fn begin(workspace: &mut [u8], heap: &mut [u8], plan: Plan) -> Step
     requires { ⌜ Rooms (plan .known) (plan .waiting) (now workspace) (now heap) ⌝ }
-    ensures { λ r. ⌜ Meets (problemOf plan (now (flags .entry)) count) plan (now (workspace .entry)) (now (heap .entry)) (now (workspace .exit)) (now (heap .exit)) r (begin (problemOf plan (now (flags .entry)) count) (distanceBits (distanceCells (plan .start) (plan .goal)))) ⌝ }
+    ensures { λ r. ⌜ (now (workspace .exit), now (heap .exit), r) ≡ beginIn plan (now (workspace .entry)) (now (heap .entry)) ⌝ }
 {
     let start = plan.start;
     let goal = plan.goal;
@@ -58,6 +60,9 @@ fn begin(workspace: &mut [u8], heap: &mut [u8], flags: &[u8], count: usize, plan
     }
 }
 
+// A run that is to count more cells than are ever counted goes to the end.
+const NO_BOUND: u64 = 0xFFFF_FFFF_FFFF_FFFF;
+
 // From the start to the last step.
 fn run_from_start(
     workspace: &mut [u8],
@@ -67,26 +72,19 @@ fn run_from_start(
     plan: Plan,
 ) -> Step
     requires { ⌜ Ready plan (now workspace) (now heap) (now flags) count ⌝ }
-    ensures { λ r. ⌜ Ran (problemOf plan (now (flags .entry)) count) plan (now (workspace .entry)) (now (heap .entry)) (now (workspace .exit)) (now (heap .exit)) r (begin (problemOf plan (now (flags .entry)) count) (distanceBits (distanceCells (plan .start) (plan .goal)))) ⌝ }
+    ensures { λ r. ⌜ (now (workspace .exit), now (heap .exit), r) ≡ wholeIn plan (rowsOf 20 (now (flags .entry)) count) (now (workspace .entry)) (now (heap .entry)) ⌝ }
 {
-    let first = begin(workspace, heap, flags, count, plan);
+    let first = begin(workspace, heap, plan);
     let Step::Going(sizes) = first else {
         return first;
     };
-    expansion::run(workspace, heap, flags, count, plan, sizes)
+    expansion::run(workspace, heap, flags, count, plan, sizes, NO_BOUND)
 }
 
 // What a search that has ended says.
-fn end(
-    workspace: &[u8],
-    flags: &[u8],
-    count: usize,
-    plan: Plan,
-    step: Step,
-    output: &mut [u8],
-) -> SearchAnswer
-    requires { ⌜ Ended plan (now workspace) step ⌝ }
-    ensures { λ r. ⌜ changed r (now (output .exit)) ≡ answeredIn (resultShown (problemOf plan (now (flags .entry)) count) plan (now (workspace .entry)) step) (now (output .entry)) ⌝ }
+fn end(workspace: &[u8], plan: Plan, step: Step, output: &mut [u8]) -> SearchAnswer
+    requires { ⌜ SizedEnd plan (now workspace) step ⌝ }
+    ensures { λ r. ⌜ changed r (now (output .exit)) ≡ endIn plan (now (workspace .entry)) step (now (output .entry)) ⌝ }
 {
     match step {
         Step::Stopped(r) => SearchAnswer::Refused(r),
@@ -94,7 +92,7 @@ fn end(
             let goal = plan.goal;
             match rows::look(workspace, plan.known, sizes.known, goal) {
                 Found::At(i) => way::answer(workspace, plan, sizes, i, output),
-                // The goal is known.
+                // The goal of a search that has come to it is known, else these bytes hold no search.
                 Found::Nowhere => SearchAnswer::Refused(Refusal::BadWorkspace),
             }
         }
@@ -118,7 +116,7 @@ fn between(
     ensures { λ r. ⌜ length (now (heap .exit)) ≡ length (now (heap .entry)) ⌝ }
 {
     let last = run_from_start(workspace, heap, flags, count, plan);
-    end(workspace, flags, count, plan, last, output)
+    end(workspace, plan, last, output)
 }
 
 // A route of one cell, which costs nothing.

@@ -1,1 +1,3 @@
 pub mod Last
+pub mod Points
+mod OneAnswer

@@ -28,7 +28,8 @@ use Rattle.expansion.specs.declared.Sizes.{Sizes}
 use Rattle.expansion.specs.declared.Step.{Step}
 use Rattle.expansion.specs.declared.Step.the-variants as steps
 use Rattle.expansion.specs.State.{entryWith, entriesIn, stateIn, problemOf, Good, Meets}
-use Rattle.expansion.specs.StateLaws.{entryFrom, entries-popped, CostRow, costs-each, each-costs, sizesOf}
+use Rattle.expansion.specs.StateLaws.{entryFrom, entries-popped, CostRow, costs-each, each-costs}
+use Rattle.expansion.specs.Bytes.{sizesOf}
 
 -- ---- the cases of the definition
 

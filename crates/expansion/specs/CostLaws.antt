@@ -1,17 +1,18 @@
--- A cost is the bits of a number that is no NaN and has the sign +. Sums of costs, steps and distances are costs. Assumes nothing.
+-- A cost is the bits of a number that is no NaN and has the sign +. Sums of costs, steps and distances are costs, and costs are in the order of their bits. Assumes nothing.
 use mathlib.Core.Path.{_≡_, refl, sym, ap, subst, _∙_}
 use mathlib.Core.Bool.{Bool, true, false, cond, _&&_, Bool·beq, true≢false}
 use Prim.Native.Nat.{ℕ, zero, suc, _+_, _-_, _*_, _/_, _%_, _^_, _<_}
 use native.Mathlib.Omega.{arith}
 use lib.Dec.{T, leb, ltb, eqb, lit<}
 use borrow.Author.Tests.{leb-false, lt-leb}
-use lib.Ieee.{Float, nan, inf, fin, binary64, prec, emax, low, hid, ones, top, up, down, odd, units, round, sum, add, lt, fits, isNan, nanBits, ofFields, ofBits, toBits}
+use lib.Ieee.{Float, nan, inf, fin, binary64, prec, emax, low, hid, ones, top, up, down, odd, units, round, sum, add, below, fits, isNan, nanBits, ofFields, ofBits, toBits}
 use lib.Ieee.Bits.{nanBits-is, ofBits-toBits}
 use lib.Ieee.Fits.{round-is, round-fits, add-fits}
 use Rattle.refusal.specs.declared.Cell.{Cell}
 use Rattle.refusal.specs.declared.Coord.{Coord}
 use Rattle.refusal.specs.declared.Refusal.the-variants.{OutOfRange}
 use Rattle.float.specs.Laws.{either}
+use Rattle.float.proofs.Sizes.{unsigned, numbers-order}
 use Rattle.lattice.specs.declared.ParityAnswer.{ParityAnswer}
 use Rattle.lattice.specs.declared.ParityAnswer.the-variants as parity
 use Rattle.lattice.specs.Lattice.{parityOf, isOdd}
@@ -115,9 +116,17 @@ plus-is a b r x y c d first second e =
     let same : r ≡ plus a b = e ∙ (λ i. toBits binary64 (add binary64 (first i) (second i))) in
     (same, subst Cost (sym same) (plus-cost a b c d))
 
-pub less-is : (a b : ℕ) (x y : Float) → x ≡ ofBits binary64 a → y ≡ ofBits binary64 b → lt x y ≡ less a b
+-- ---- the order
+
+-- the bits of costs are in the order of the costs
+pub cost-order : (a b : ℕ) → Cost a → Cost b → less a b ≡ ltb a b
 unfolding less
-less-is a b x y first second = λ i. lt (first i) (second i)
+cost-order a b c d =
+    numbers-order a b (c .number) (d .number)
+    ∙ (λ i. below (lt-leb (2 ^ 63) a (c .positive) i) (whole a c i) (lt-leb (2 ^ 63) b (d .positive) i) (whole b d i))
+  where
+    whole : (a : ℕ) → Cost a → unsigned a ≡ a
+    whole a c = omega (arith, c .positive)
 
 -- ---- steps
 

@@ -1,5 +1,10 @@
 pub mod State
 pub mod Estimate
+pub mod Bytes
+pub mod BytesLaws
+pub mod BytesKept
+pub mod BytesLoops
+pub mod RunsAdd
 pub mod CostLaws
 pub mod StateLaws
 pub mod RelaxLaws
@@ -7,3 +12,4 @@ pub mod AroundLaws
 pub mod EnterLaws
 pub mod AdvanceLaws
 pub mod RunLaws
+pub mod Simulates

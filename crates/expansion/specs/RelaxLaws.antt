@@ -4,8 +4,7 @@ use mathlib.Core.Bool.{Bool, true, false, cond, _||_}
 use mathlib.Core.List.{List}
 use mathlib.Core.Option.{Option, none, some}
 use Prim.Native.Nat.{ℕ, _≤_, _<_}
-use lib.Dec.{lit<}
-use lib.Ieee.{binary64, nanBits, toBits}
+use lib.Ieee.{binary64, toBits}
 use lib.ListN.{length}
 use borrow.Author.Tests.{lt-ltb, le-ltb}
 use Rattle.refusal.specs.declared.Cell.{Cell}
@@ -26,17 +25,7 @@ use Rattle.expansion.specs.declared.Plan.{Plan}
 use Rattle.expansion.specs.declared.Sizes.{Sizes}
 use Rattle.expansion.specs.declared.Step.{Step}
 use Rattle.expansion.specs.declared.Step.the-variants as step
-use Rattle.expansion.specs.State.{stateIn, problemOf, Cost, Good, Meets}
-
--- ---- costs
-
-pub infinity-cost : Cost 0x7FF0_0000_0000_0000
-unfolding nanBits
-infinity-cost = record { positive = lit< tt; number = refl }
-
-pub row-cost : {p : Plan} {w h : List ℕ} {z : Sizes} → Good p w h z → (i r : ℕ) → i < z .known → r ≡ rowIn w (p .known) i .g → Cost r
-unfolding rowIn
-row-cost good i r below e = subst Cost (sym e) (good .costs i below)
+use Rattle.expansion.specs.State.{stateIn, problemOf, Good, Meets}
 
 -- ---- the cases of the definition
 

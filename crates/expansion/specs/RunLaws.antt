@@ -1,18 +1,17 @@
--- Pop after pop: what the definition counts as left falls with each. Assumes nothing.
-use mathlib.Core.Path.{_≡_, refl, sym, ap, subst, _∙_}
+-- Pop after pop, from where the first one started: it goes on, it ends or it is paused. Assumes nothing.
+use mathlib.Core.Path.{_≡_, refl, sym, ap, _∙_}
+use mathlib.Core.Bool.{true}
 use mathlib.Core.List.{List}
-use Prim.Native.Nat.{ℕ, _+_, _≤_, _<_}
+use Prim.Native.Nat.{ℕ, _+_}
 use lib.ListN.{length}
 use Rattle.search.specs.Search.{going, step, run}
-use Rattle.search.specs.Plan.{planOf}
-use Rattle.search.specs.Ending.{run-split, Roomy, Down, left, step-down}
-use Rattle.rows.specs.RowsLaws.{length-rows}
+use Rattle.search.specs.Ending.{run-split}
 use Rattle.expansion.specs.declared.Plan.{Plan}
 use Rattle.expansion.specs.declared.Sizes.{Sizes}
 use Rattle.expansion.specs.declared.Step.{Step}
 use Rattle.expansion.specs.declared.Step.the-variants as steps
-use Rattle.expansion.specs.State.{stateIn, problemOf, Good, Meets, Ran}
-use Rattle.expansion.specs.StateLaws.{length-entries}
+use Rattle.expansion.specs.State.{stateIn, problemOf, Good, Meets, RanTo}
+use Rattle.expansion.specs.Bytes.{pausedIn}
 
 -- so many pops were made
 pub record Running (p : Plan) (flags : List ℕ) (count : ℕ) (w₀ h₀ : List ℕ) (z₀ : Sizes) (w h : List ℕ) (z : Sizes) : Type 0 where
@@ -21,15 +20,6 @@ pub record Running (p : Plan) (flags : List ℕ) (count : ℕ) (w₀ h₀ : List
   pub heap-length : length h ≡ length h₀
   pub good : Good p w h z
   pub same : run (problemOf p flags count) pops (going (stateIn p w₀ h₀ z₀)) ≡ going (stateIn p w h z)
-
-good-roomy : (p : Plan) (flags w h : List ℕ) (count : ℕ) (z : Sizes) → Good p w h z → Roomy (problemOf p flags count) (stateIn p w h z)
-unfolding planOf
-good-roomy p flags w h count z good =
-    record {
-      fits = subst (λ (n : ℕ). n ≤ p .known) (sym (length-rows w (p .known) (z .known))) (good .rows .known .count);
-      few = subst (λ (n : ℕ). n ≤ p .waiting) (sym (length-entries h (z .waiting))) (good .few);
-      waits = good .waits;
-    }
 
 module _ {p : Plan} {flags : List ℕ} {count : ℕ} {w₀ h₀ : List ℕ} {z₀ : Sizes} where
   pub run-start : Good p w₀ h₀ z₀ → Running p flags count w₀ h₀ z₀ w₀ h₀ z₀
@@ -51,11 +41,8 @@ module _ {p : Plan} {flags : List ℕ} {count : ℕ} {w₀ h₀ : List ℕ} {z�
           same = one-more ∙ sym (m .same);
         }
 
-    pub run-falls : (w′ h′ : List ℕ) (z′ : Sizes) → Meets (problemOf p flags count) p w h w′ h′ (steps.Going z′) (step (problemOf p flags count) (stateIn p w h z)) → left (problemOf p flags count) (stateIn p w′ h′ z′) < left (problemOf p flags count) (stateIn p w h z)
-    run-falls w′ h′ z′ m = subst (Down (problemOf p flags count) (left (problemOf p flags count) (stateIn p w h z))) (sym (m .same)) (step-down (problemOf p flags count) (stateIn p w h z) (good-roomy p flags w h count z (a .good))) .fewer
-
-    pub run-ends : (w′ h′ : List ℕ) (r : Step) → ((x : Sizes) → r ≡ steps.Going x → ⊥) → Meets (problemOf p flags count) p w h w′ h′ r (step (problemOf p flags count) (stateIn p w h z)) → Ran (problemOf p flags count) p w₀ h₀ w′ h′ r (going (stateIn p w₀ h₀ z₀))
-    run-ends w′ h′ r last m =
+    pub run-ends : (until : ℕ) (w′ h′ : List ℕ) (r : Step) → ((x : Sizes) → r ≡ steps.Going x → ⊥) → Meets (problemOf p flags count) p w h w′ h′ r (step (problemOf p flags count) (stateIn p w h z)) → RanTo (problemOf p flags count) p until w₀ h₀ w′ h′ r (going (stateIn p w₀ h₀ z₀))
+    run-ends until w′ h′ r last m =
         record {
           pops = a .pops + 1;
           met = record {
@@ -64,5 +51,13 @@ module _ {p : Plan} {flags : List ℕ} {count : ℕ} {w₀ h₀ : List ℕ} {z�
             workspace-length = m .workspace-length ∙ a .workspace-length;
             heap-length = m .heap-length ∙ a .heap-length;
           };
-          last = last;
+          paused = λ x e. absurd (last x e);
+        }
+
+    pub run-pauses : (until : ℕ) → pausedIn p until w h z ≡ true → RanTo (problemOf p flags count) p until w₀ h₀ w h (steps.Going z) (going (stateIn p w₀ h₀ z₀))
+    run-pauses until paused =
+        record {
+          pops = a .pops;
+          met = record { same = sym (a .same); good = a .good; workspace-length = a .workspace-length; heap-length = a .heap-length };
+          paused = λ x e. let same : z ≡ x = cc in ap (pausedIn p until w h) (sym same) ∙ paused;
         }

@@ -21,6 +21,7 @@ use Rattle.expansion.specs.declared.Plan.{Plan}
 use Rattle.expansion.specs.declared.Sizes.{Sizes}
 use Rattle.expansion.specs.declared.Step.{Step}
 use Rattle.expansion.specs.declared.Step.the-variants as step
+use Rattle.expansion.specs.Bytes.{pausedIn}
 
 -- the problem of a plan, in a flag layer
 abbrev pub problemOf : Plan → List ℕ → ℕ → Problem
@@ -75,6 +76,12 @@ pub record Meets (P : Problem) (p : Plan) (w h w′ h′ : List ℕ) (r : Step) 
   pub good : GoodStep p w′ h′ r
   pub workspace-length : length w′ ≡ length w
   pub heap-length : length h′ ≡ length h
+
+-- a run that is to pause at so many counts is at the definition's flow after some pops; where it goes on, it is paused
+pub record RanTo (P : Problem) (p : Plan) (until : ℕ) (w h w′ h′ : List ℕ) (r : Step) (f : Flow) : Type 0 where
+  pub pops : ℕ
+  pub met : Meets P p w h w′ h′ r (run P pops f)
+  pub paused : (z : Sizes) → r ≡ step.Going z → pausedIn p until w′ h′ z ≡ true
 
 -- the code's last step is where the definition ends, after some pops
 pub record Ran (P : Problem) (p : Plan) (w h w′ h′ : List ℕ) (r : Step) (f : Flow) : Type 0 where

@@ -25,16 +25,13 @@ use Rattle.search.specs.Search.{Problem, Told, is, refused, Row, Entry, state, 
 use Rattle.search.specs.Counted.{closedIn, closed-put}
 use Rattle.search.specs.WaitingLaws.{KnownCell, waits-put}
 use Rattle.rows.specs.Rows.{gIn, rowIn, rowsFrom, rowsIn, Changed}
-use Rattle.rows.specs.RowsLaws.{find-row, find-no-row}
-use Rattle.known.specs.Known.{cellIn}
 use Rattle.known.specs.Laws.{cell-words}
-use Rattle.words.specs.Word.{Bytes}
-use Rattle.cell.specs.Cell.{distanceCells}
-use Rattle.search.specs.Plan.{distanceBits, planOf}
+use Rattle.search.specs.Plan.{planOf}
 use Rattle.expansion.specs.declared.Plan.{Plan}
 use Rattle.expansion.specs.declared.Sizes.{Sizes}
 use Rattle.expansion.specs.declared.Step.the-variants as step
 use Rattle.expansion.specs.State.{entryWith, entriesIn, stateIn, problemOf, Cost, Good, Meets}
+use Rattle.expansion.specs.Bytes.{sizesOf, entryTo}
 
 -- ---- waiting entries
 
@@ -113,12 +110,6 @@ each-costs w room n h i below = let place : 0 + i ≡ i = omega arith in subst (
 
 -- ---- an entry is pushed and its row put
 
-abbrev pub sizesOf : ℕ → ℕ → ℕ → Sizes
-sizesOf known waiting count = record { known = known; waiting = waiting; count = count }
-
-abbrev pub entryTo : ℕ → Cell → ℕ → waited.Entry
-entryTo f n g = record { f = f; cell = n; g = g }
-
 module _ (p : Plan) (w h w′ h′ : List ℕ) (z : Sizes) (known f g b : ℕ) (n : Cell) where
   abbrev rows : List Row
   rows = rowsIn w (p .known) (z .known)
@@ -195,40 +186,3 @@ module _ (p : Plan) (w h : List ℕ) (z : Sizes) (c n g : ℕ) (P : Problem) (ro
 pub waiting-room : (p : Plan) (flags : List ℕ) (count : ℕ) → problemOf p flags count .waitingRoom ≡ p .waiting
 unfolding planOf
 waiting-room p flags count = refl
-
-module _ (p : Plan) (w h w′ h′ : List ℕ) (z : Sizes) (at f g x : ℕ) (n : Cell) (P : Problem) (room-is : P .waitingRoom ≡ p .waiting) (bytes : Bytes w) (good : Good p w h z) (f-cost : Cost f) (g-cost : Cost g)
-    (sum : f ≡ plus g x) (room : z .waiting < p .waiting) (e : is x ≡ distanceBits (distanceCells n (p .goal))) (pushes : Pushed h h′ (z .waiting) (entryTo f n g)) where
-  -- of a known cell
-  pub renew-meets : (i : ℕ) → i < z .known → rowIn w (p .known) i .closed ≡ false → n ≡ cellIn w (p .known) i
-      → Changed w w′ (p .known) (z .known) (z .known) (put (rawOf (cellIn w (p .known) i)) g (rawOf (cellIn w (p .known) at)) (rowsIn w (p .known) (z .known)))
-      → Meets P p w h w′ h′ (step.Going (sizesOf (z .known) (z .waiting + 1) (z .count))) (push P (rawOf (cellIn w (p .known) at)) (rawOf (cellIn w (p .known) i)) g (stateIn p w h z) (distanceBits (distanceCells (cellIn w (p .known) i) (p .goal))))
-  renew-meets i below unclosed same changed =
-      let d = cellIn w (p .known) i in
-      entered-meets p w h w′ h′ z (z .known) f g (rawOf (cellIn w (p .known) at)) d P room-is (distanceBits (distanceCells d (p .goal))) x (e ∙ ap (λ (c : Cell). distanceBits (distanceCells c (p .goal))) same) sum
-      (record {
-        good = good;
-        f-cost = f-cost;
-        g-cost = g-cost;
-        words = cell-words w (p .known) i bytes;
-        unclosed = ap isClosed (find-row w (p .known) (z .known) (good .rows) bytes i below) ∙ unclosed;
-        room = room;
-        changed = changed;
-        push = subst (λ (c : Cell). Pushed h h′ (z .waiting) (entryTo f c g)) same pushes;
-      })
-
-  -- of a cell that was not known
-  pub fresh-meets : at < z .known → Words n → ((j : ℕ) → j < z .known → cellIn w (p .known) j ≡ n → ⊥)
-      → Changed w w′ (p .known) (z .known) (z .known + 1) (put (rawOf n) g (rawOf (cellIn w′ (p .known) at)) (rowsIn w (p .known) (z .known)))
-      → Meets P p w h w′ h′ (step.Going (sizesOf (z .known + 1) (z .waiting + 1) (z .count))) (push P (rawOf (cellIn w (p .known) at)) (rawOf n) g (stateIn p w h z) (distanceBits (distanceCells n (p .goal))))
-  fresh-meets below words nowhere changed =
-      entered-meets p w h w′ h′ z (z .known + 1) f g (rawOf (cellIn w (p .known) at)) n P room-is (distanceBits (distanceCells n (p .goal))) x e sum
-      (record {
-        good = good;
-        f-cost = f-cost;
-        g-cost = g-cost;
-        words = words;
-        unclosed = ap isClosed (find-no-row w (p .known) (z .known) n bytes words nowhere);
-        room = room;
-        changed = subst (λ (c : Cell). Changed w w′ (p .known) (z .known) (z .known + 1) (put (rawOf n) g (rawOf c) (rowsIn w (p .known) (z .known)))) (changed .cells at below) changed;
-        push = pushes;
-      })

@@ -1,20 +1,17 @@
-// The search from pop to pop, over lent bytes: the known cells in one buffer, a heap of waiting entries in another. A cell is closed and counted, and its neighbours are reached.
+// The search from pop to pop, over lent bytes: the known cells in one buffer, a heap of waiting entries in another. A cell is closed and counted, and its neighbours are reached. What each function
+// answers and leaves is a function of the bytes, whether they hold a search or not; what cannot be searched on is BadWorkspace.
 ghost use mathlib.Core.Path.{_≡_};
 ghost use mathlib.Core.Bool.{true, false};
-ghost use mathlib.Core.List.{map};
-ghost use mathlib.Core.Option.{none, some};
-ghost use Prim.Native.Nat.{ℕ, _<_};
+ghost use Prim.Native.Nat.{_<_};
 ghost use lib.Ieee.{binary64, toBits};
-ghost use Rattle.refusal.specs.Table.{rawOf};
 ghost use Rattle.cell.specs.Cell.{distanceCells};
-ghost use Rattle.layer.specs.Layer.{isSound};
+ghost use Rattle.layer.specs.Layer.{isSound, rowsOf};
 ghost use Rattle.route.specs.Route.{costBetween};
-ghost use Rattle.known.specs.Known.{cellIn};
-ghost use Rattle.rows.specs.Rows.{rowIn};
-ghost use Rattle.search.specs.Search.{going, plus, less, push, tried, relax, relaxAll, entered, step};
+ghost use Rattle.search.specs.Search.{plus};
 ghost use Rattle.search.specs.Plan.{distanceBits};
-ghost use Rattle.expansion.specs.State.{problemOf, stateIn, Cost, Good, Meets, Ran};
+ghost use Rattle.expansion.specs.State.{Cost};
 ghost use Rattle.expansion.specs.Estimate.{toldAhead, SoundAhead};
+ghost use Rattle.expansion.specs.Bytes.{Rooms, Fits, renewIn, freshIn, knownIn, newIn, relaxIn, relaxAllIn, enteredIn, advanceIn, isSized, enough, dueIn, pausedIn, popsIn, runIn, resumeIn};
 use distance::DistanceAnswer;
 use known::Found;
 use refusal::Cell;
@@ -66,14 +63,6 @@ fn plus(a: u64, b: u64) -> u64
     float::bits(float::value(a) + float::value(b))
 }
 
-fn less(a: u64, b: u64) -> bool
-    requires { ⌜ Cost a ⌝ }
-    requires { ⌜ Cost b ⌝ }
-    ensures { λ r. ⌜ r ≡ less a b ⌝ }
-{
-    float::value(a) < float::value(b)
-}
-
 fn cost(a: Cell, b: Cell) -> u64
     ensures { λ r. ⌜ r ≡ toBits binary64 (costBetween a b) ⌝ }
     ensures { λ r. ⌜ Cost r ⌝ }
@@ -93,24 +82,24 @@ pub fn ahead(c: Cell, goal: Cell) -> Estimate
 
 // ---- one neighbour
 
+// The bits of infinity: no cost is above it. The bits of costs are in the order of the costs, so they are compared as they are.
+const INFINITY: u64 = 0x7FF0_0000_0000_0000;
+
 // A shorter way to a known cell, that of record i, from the cell of record `at`.
 fn renew(
     workspace: &mut [u8],
     heap: &mut [u8],
-    flags: &[u8],
-    count: usize,
     plan: Plan,
     sizes: Sizes,
     at: usize,
     i: usize,
     g: u64,
 ) -> Step
-    requires { ⌜ Good plan (now workspace) (now heap) sizes ⌝ }
+    requires { ⌜ Fits plan (now workspace) (now heap) sizes ⌝ }
     requires { ⌜ Cost g ⌝ }
     requires { ⌜ at < sizes .known ⌝ }
     requires { ⌜ i < sizes .known ⌝ }
-    requires { ⌜ rowIn (now workspace) (plan .known) i .closed ≡ false ⌝ }
-    ensures { λ r. ⌜ Meets (problemOf plan (now (flags .entry)) count) plan (now (workspace .entry)) (now (heap .entry)) (now (workspace .exit)) (now (heap .exit)) r (push (problemOf plan (now (flags .entry)) count) (rawOf (cellIn (now (workspace .entry)) (plan .known) at)) (rawOf (cellIn (now (workspace .entry)) (plan .known) i)) g (stateIn plan (now (workspace .entry)) (now (heap .entry)) sizes) (distanceBits (distanceCells (cellIn (now (workspace .entry)) (plan .known) i) (plan .goal)))) ⌝ }
+    ensures { λ r. ⌜ (now (workspace .exit), now (heap .exit), r) ≡ renewIn plan (now (workspace .entry)) (now (heap .entry)) sizes at i g ⌝ }
 {
     let n = known::cell_at(workspace, plan.known, i);
     match ahead(n, plan.goal) {
@@ -119,7 +108,7 @@ fn renew(
             if sizes.waiting >= plan.waiting {
                 return Step::Stopped(Refusal::NoRoom(Room::Waiting));
             }
-            rows::lower(workspace, plan.known, sizes.known, i, g, at);
+            rows::lower(workspace, plan.known, i, g, at);
             let f = plus(g, h);
             waiting::push(heap, sizes.waiting, Entry { f, cell: n, g });
             Step::Going(Sizes {
@@ -135,20 +124,17 @@ fn renew(
 fn fresh(
     workspace: &mut [u8],
     heap: &mut [u8],
-    flags: &[u8],
-    count: usize,
     plan: Plan,
     sizes: Sizes,
     at: usize,
     n: Cell,
     g: u64,
 ) -> Step
-    requires { ⌜ Good plan (now workspace) (now heap) sizes ⌝ }
+    requires { ⌜ Fits plan (now workspace) (now heap) sizes ⌝ }
     requires { ⌜ Cost g ⌝ }
     requires { ⌜ at < sizes .known ⌝ }
     requires { ⌜ sizes .known < plan .known ⌝ }
-    requires { ⌜ ((j : ℕ) → j < sizes .known → cellIn (now workspace) (plan .known) j ≡ n → ⊥) ⌝ }
-    ensures { λ r. ⌜ Meets (problemOf plan (now (flags .entry)) count) plan (now (workspace .entry)) (now (heap .entry)) (now (workspace .exit)) (now (heap .exit)) r (push (problemOf plan (now (flags .entry)) count) (rawOf (cellIn (now (workspace .entry)) (plan .known) at)) (rawOf n) g (stateIn plan (now (workspace .entry)) (now (heap .entry)) sizes) (distanceBits (distanceCells n (plan .goal)))) ⌝ }
+    ensures { λ r. ⌜ (now (workspace .exit), now (heap .exit), r) ≡ freshIn plan (now (workspace .entry)) (now (heap .entry)) sizes at n g ⌝ }
 {
     match ahead(n, plan.goal) {
         Estimate::Refused(r) => Step::Stopped(r),
@@ -181,28 +167,25 @@ fn reach_known(
     n: Cell,
     t: u64,
 ) -> Step
-    requires { ⌜ Good plan (now workspace) (now heap) sizes ⌝ }
+    requires { ⌜ Fits plan (now workspace) (now heap) sizes ⌝ }
     requires { ⌜ isSound 20 (now flags) count ≡ true ⌝ }
     requires { ⌜ Cost t ⌝ }
     requires { ⌜ at < sizes .known ⌝ }
     requires { ⌜ i < sizes .known ⌝ }
-    requires { ⌜ cellIn (now workspace) (plan .known) i ≡ n ⌝ }
-    ensures { λ r. ⌜ Meets (problemOf plan (now (flags .entry)) count) plan (now (workspace .entry)) (now (heap .entry)) (now (workspace .exit)) (now (heap .exit)) r (tried (problemOf plan (now (flags .entry)) count) (rawOf (cellIn (now (workspace .entry)) (plan .known) at)) (rawOf n) t (stateIn plan (now (workspace .entry)) (now (heap .entry)) sizes) (some (rowIn (now (workspace .entry)) (plan .known) i))) ⌝ }
+    ensures { λ r. ⌜ (now (workspace .exit), now (heap .exit), r) ≡ knownIn plan (rowsOf 20 (now (flags .entry)) count) (now (workspace .entry)) (now (heap .entry)) sizes at i n t ⌝ }
 {
-    if rows::is_closed(workspace, plan.known, sizes.known, i) {
+    if rows::is_closed(workspace, plan.known, i) {
         return Step::Going(sizes);
     }
-    if less(t, rows::g_at(workspace, plan.known, sizes.known, i)) {
+    if t < rows::g_at(workspace, plan.known, i) {
         // Asked last: it costs most, and few ways are shorter.
         if route::is_shut(flags, count, plan.rule, n) {
             return Step::Going(sizes);
         }
-        return renew(workspace, heap, flags, count, plan, sizes, at, i, t);
+        return renew(workspace, heap, plan, sizes, at, i, t);
     }
     Step::Going(sizes)
 }
-
-const INFINITY: u64 = 0x7FF0_0000_0000_0000;
 
 // The same to a cell that is not known.
 fn reach_new(
@@ -216,26 +199,25 @@ fn reach_new(
     n: Cell,
     t: u64,
 ) -> Step
-    requires { ⌜ Good plan (now workspace) (now heap) sizes ⌝ }
+    requires { ⌜ Fits plan (now workspace) (now heap) sizes ⌝ }
     requires { ⌜ isSound 20 (now flags) count ≡ true ⌝ }
     requires { ⌜ Cost t ⌝ }
     requires { ⌜ at < sizes .known ⌝ }
-    requires { ⌜ ((j : ℕ) → j < sizes .known → cellIn (now workspace) (plan .known) j ≡ n → ⊥) ⌝ }
-    ensures { λ r. ⌜ Meets (problemOf plan (now (flags .entry)) count) plan (now (workspace .entry)) (now (heap .entry)) (now (workspace .exit)) (now (heap .exit)) r (tried (problemOf plan (now (flags .entry)) count) (rawOf (cellIn (now (workspace .entry)) (plan .known) at)) (rawOf n) t (stateIn plan (now (workspace .entry)) (now (heap .entry)) sizes) none) ⌝ }
+    ensures { λ r. ⌜ (now (workspace .exit), now (heap .exit), r) ≡ newIn plan (rowsOf 20 (now (flags .entry)) count) (now (workspace .entry)) (now (heap .entry)) sizes at n t ⌝ }
 {
     if route::is_shut(flags, count, plan.rule, n) {
         return Step::Going(sizes);
     }
-    if less(t, INFINITY) {
+    if t < INFINITY {
         if sizes.known >= plan.known {
             return Step::Stopped(Refusal::NoRoom(Room::Known));
         }
-        return fresh(workspace, heap, flags, count, plan, sizes, at, n, t);
+        return fresh(workspace, heap, plan, sizes, at, n, t);
     }
     Step::Going(sizes)
 }
 
-// One neighbour of the cell of record `at`, which has the cost g.
+// One neighbour of the cell c, that of record `at`, which has the cost g.
 fn relax(
     workspace: &mut [u8],
     heap: &mut [u8],
@@ -244,16 +226,16 @@ fn relax(
     plan: Plan,
     sizes: Sizes,
     at: usize,
+    c: Cell,
     g: u64,
     n: Cell,
 ) -> Step
-    requires { ⌜ Good plan (now workspace) (now heap) sizes ⌝ }
+    requires { ⌜ Fits plan (now workspace) (now heap) sizes ⌝ }
     requires { ⌜ isSound 20 (now flags) count ≡ true ⌝ }
     requires { ⌜ Cost g ⌝ }
     requires { ⌜ at < sizes .known ⌝ }
-    ensures { λ r. ⌜ Meets (problemOf plan (now (flags .entry)) count) plan (now (workspace .entry)) (now (heap .entry)) (now (workspace .exit)) (now (heap .exit)) r (relax (problemOf plan (now (flags .entry)) count) (rawOf (cellIn (now (workspace .entry)) (plan .known) at)) g (rawOf n) (stateIn plan (now (workspace .entry)) (now (heap .entry)) sizes)) ⌝ }
+    ensures { λ r. ⌜ (now (workspace .exit), now (heap .exit), r) ≡ relaxIn plan (rowsOf 20 (now (flags .entry)) count) at c g n (now (workspace .entry)) (now (heap .entry)) sizes ⌝ }
 {
-    let c = known::cell_at(workspace, plan.known, at);
     let t = plus(g, cost(c, n));
     match rows::look(workspace, plan.known, sizes.known, n) {
         Found::At(i) => reach_known(workspace, heap, flags, count, plan, sizes, at, i, n, t),
@@ -270,19 +252,31 @@ fn relax_all(
     plan: Plan,
     sizes: Sizes,
     at: usize,
+    c: Cell,
     g: u64,
     cells: [Cell; 14],
 ) -> Step
-    requires { ⌜ Good plan (now workspace) (now heap) sizes ⌝ }
+    requires { ⌜ Fits plan (now workspace) (now heap) sizes ⌝ }
     requires { ⌜ isSound 20 (now flags) count ≡ true ⌝ }
     requires { ⌜ Cost g ⌝ }
     requires { ⌜ at < sizes .known ⌝ }
-    ensures { λ r. ⌜ Meets (problemOf plan (now (flags .entry)) count) plan (now (workspace .entry)) (now (heap .entry)) (now (workspace .exit)) (now (heap .exit)) r (relaxAll (problemOf plan (now (flags .entry)) count) (rawOf (cellIn (now (workspace .entry)) (plan .known) at)) g (map rawOf cells) (stateIn plan (now (workspace .entry)) (now (heap .entry)) sizes)) ⌝ }
+    ensures { λ r. ⌜ (now (workspace .exit), now (heap .exit), r) ≡ relaxAllIn plan (rowsOf 20 (now (flags .entry)) count) at c g cells (now (workspace .entry)) (now (heap .entry)) sizes ⌝ }
 {
     let mut size = sizes;
     let mut i = 0;
     while i < 14 {
-        match relax(workspace, heap, flags, count, plan, size, at, g, cells[i]) {
+        match relax(
+            workspace,
+            heap,
+            flags,
+            count,
+            plan,
+            size,
+            at,
+            c,
+            g,
+            cells[i],
+        ) {
             Step::Going(z) => {
                 size = z;
             }
@@ -307,11 +301,11 @@ fn enter(
     at: usize,
     g: u64,
 ) -> Step
-    requires { ⌜ Good plan (now workspace) (now heap) sizes ⌝ }
+    requires { ⌜ Fits plan (now workspace) (now heap) sizes ⌝ }
     requires { ⌜ isSound 20 (now flags) count ≡ true ⌝ }
     requires { ⌜ Cost g ⌝ }
     requires { ⌜ at < sizes .known ⌝ }
-    ensures { λ r. ⌜ Meets (problemOf plan (now (flags .entry)) count) plan (now (workspace .entry)) (now (heap .entry)) (now (workspace .exit)) (now (heap .exit)) r (entered (problemOf plan (now (flags .entry)) count) (rawOf (cellIn (now (workspace .entry)) (plan .known) at)) g (stateIn plan (now (workspace .entry)) (now (heap .entry)) sizes)) ⌝ }
+    ensures { λ r. ⌜ (now (workspace .exit), now (heap .exit), r) ≡ enteredIn plan (rowsOf 20 (now (flags .entry)) count) (now (workspace .entry)) (now (heap .entry)) sizes at g ⌝ }
 {
     if plan.limit < sizes.count {
         return Step::Stopped(Refusal::SearchLimitExceeded(Spent {
@@ -329,7 +323,7 @@ fn enter(
         Outcome::Refused(r) => Step::Stopped(r),
         Outcome::Answered => {
             let cells = near.cells;
-            relax_all(workspace, heap, flags, count, plan, sizes, at, g, cells)
+            relax_all(workspace, heap, flags, count, plan, sizes, at, c, g, cells)
         }
     }
 }
@@ -343,9 +337,9 @@ fn advance(
     plan: Plan,
     sizes: Sizes,
 ) -> Step
-    requires { ⌜ Good plan (now workspace) (now heap) sizes ⌝ }
+    requires { ⌜ Fits plan (now workspace) (now heap) sizes ⌝ }
     requires { ⌜ isSound 20 (now flags) count ≡ true ⌝ }
-    ensures { λ r. ⌜ Meets (problemOf plan (now (flags .entry)) count) plan (now (workspace .entry)) (now (heap .entry)) (now (workspace .exit)) (now (heap .exit)) r (step (problemOf plan (now (flags .entry)) count) (stateIn plan (now (workspace .entry)) (now (heap .entry)) sizes)) ⌝ }
+    ensures { λ r. ⌜ (now (workspace .exit), now (heap .exit), r) ≡ advanceIn plan (rowsOf 20 (now (flags .entry)) count) (now (workspace .entry)) (now (heap .entry)) sizes ⌝ }
 {
     if sizes.waiting == 0 {
         let start = plan.start;
@@ -357,15 +351,22 @@ fn advance(
     let c = first.cell;
     match rows::look(workspace, plan.known, sizes.known, c) {
         Found::At(row) => {
-            if rows::is_closed(workspace, plan.known, sizes.known, row) {
+            if rows::is_closed(workspace, plan.known, row) {
                 return Step::Going(Sizes {
                     known: sizes.known,
                     waiting: left,
                     count: sizes.count,
                 });
             }
-            let g = rows::g_at(workspace, plan.known, sizes.known, row);
-            rows::close_at(workspace, plan.known, sizes.known, row);
+            if sizes.count as usize >= sizes.known {
+                // More would be closed than are known.
+                return Step::Stopped(Refusal::BadWorkspace);
+            }
+            let g = rows::g_at(workspace, plan.known, row);
+            if g > INFINITY {
+                return Step::Stopped(Refusal::BadWorkspace);
+            }
+            rows::close_at(workspace, plan.known, row);
             let counted = sizes.count + 1;
             let closed = Sizes {
                 known: sizes.known,
@@ -374,23 +375,52 @@ fn advance(
             };
             enter(workspace, heap, flags, count, plan, closed, row, g)
         }
-        // Every cell that waits is known.
-        Found::Nowhere => Step::Going(sizes),
+        // Every cell that waits is known, else these bytes cannot be searched on.
+        Found::Nowhere => Step::Stopped(Refusal::BadWorkspace),
     }
 }
 
-// Pop after pop, to the end.
-pub fn run(
+// Whether the next pop is no skip: an entry waits, and its cell is not closed.
+fn is_due(workspace: &[u8], heap: &[u8], plan: Plan, sizes: Sizes) -> bool
+    requires { ⌜ Fits plan (now workspace) (now heap) sizes ⌝ }
+    ensures { λ r. ⌜ r ≡ dueIn plan (now (workspace .entry)) (now (heap .entry)) sizes ⌝ }
+{
+    if sizes.waiting == 0 {
+        return false;
+    }
+    let first = waiting::first(heap, sizes.waiting);
+    let c = first.cell;
+    match rows::look(workspace, plan.known, sizes.known, c) {
+        Found::At(row) => !rows::is_closed(workspace, plan.known, row),
+        Found::Nowhere => true,
+    }
+}
+
+// Whether so many cells are closed, and the next pop would close one more.
+fn is_paused(workspace: &[u8], heap: &[u8], plan: Plan, sizes: Sizes, until: u64) -> bool
+    requires { ⌜ Fits plan (now workspace) (now heap) sizes ⌝ }
+    ensures { λ r. ⌜ r ≡ pausedIn plan until (now (workspace .entry)) (now (heap .entry)) sizes ⌝ }
+{
+    if until <= sizes.count {
+        return is_due(workspace, heap, plan, sizes);
+    }
+    false
+}
+
+// Pop after pop, until so many cells are closed and the next pop would close one more, or to the end.
+fn pops(
     workspace: &mut [u8],
     heap: &mut [u8],
     flags: &[u8],
     count: usize,
     plan: Plan,
     sizes: Sizes,
+    until: u64,
 ) -> Step
-    requires { ⌜ Good plan (now workspace) (now heap) sizes ⌝ }
+    requires { ⌜ Fits plan (now workspace) (now heap) sizes ⌝ }
     requires { ⌜ isSound 20 (now flags) count ≡ true ⌝ }
-    ensures { λ r. ⌜ Ran (problemOf plan (now (flags .entry)) count) plan (now (workspace .entry)) (now (heap .entry)) (now (workspace .exit)) (now (heap .exit)) r (going (stateIn plan (now (workspace .entry)) (now (heap .entry)) sizes)) ⌝ }
+    requires { ⌜ pausedIn plan until (now workspace) (now heap) sizes ≡ false ⌝ }
+    ensures { λ r. ⌜ (now (workspace .exit), now (heap .exit), r) ≡ popsIn plan (rowsOf 20 (now (flags .entry)) count) (enough plan) until (now (workspace .entry)) (now (heap .entry)) sizes ⌝ }
 {
     let mut size = sizes;
     loop {
@@ -398,6 +428,61 @@ pub fn run(
         let Step::Going(z) = r else {
             return r;
         };
+        if is_paused(workspace, heap, plan, z, until) {
+            return Step::Going(z);
+        }
         size = z;
     }
+}
+
+// A search until so many cells are closed and the next pop would close one more, or to the end. No more than 65,536 cells are ever closed: a larger number is no bound.
+pub fn run(
+    workspace: &mut [u8],
+    heap: &mut [u8],
+    flags: &[u8],
+    count: usize,
+    plan: Plan,
+    sizes: Sizes,
+    until: u64,
+) -> Step
+    requires { ⌜ Fits plan (now workspace) (now heap) sizes ⌝ }
+    requires { ⌜ isSound 20 (now flags) count ≡ true ⌝ }
+    ensures { λ r. ⌜ (now (workspace .exit), now (heap .exit), r) ≡ runIn plan (rowsOf 20 (now (flags .entry)) count) until (now (workspace .entry)) (now (heap .entry)) sizes ⌝ }
+{
+    if is_paused(workspace, heap, plan, sizes, until) {
+        return Step::Going(sizes);
+    }
+    pops(workspace, heap, flags, count, plan, sizes, until)
+}
+
+// Whether sizes are within their rooms.
+fn is_sized(plan: Plan, sizes: Sizes) -> bool
+    ensures { λ r. ⌜ r ≡ isSized plan sizes ⌝ }
+{
+    if sizes.known <= plan.known {
+        if sizes.waiting <= plan.waiting {
+            return sizes.count <= sizes.known as u64;
+        }
+    }
+    false
+}
+
+// The same with sizes that a caller kept, and may have altered.
+pub fn resume(
+    workspace: &mut [u8],
+    heap: &mut [u8],
+    flags: &[u8],
+    count: usize,
+    plan: Plan,
+    sizes: Sizes,
+    until: u64,
+) -> Step
+    requires { ⌜ Rooms (plan .known) (plan .waiting) (now workspace) (now heap) ⌝ }
+    requires { ⌜ isSound 20 (now flags) count ≡ true ⌝ }
+    ensures { λ r. ⌜ (now (workspace .exit), now (heap .exit), r) ≡ resumeIn plan (rowsOf 20 (now (flags .entry)) count) until (now (workspace .entry)) (now (heap .entry)) sizes ⌝ }
+{
+    if !is_sized(plan, sizes) {
+        return Step::Stopped(Refusal::BadWorkspace);
+    }
+    run(workspace, heap, flags, count, plan, sizes, until)
 }

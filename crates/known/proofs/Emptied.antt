@@ -1,6 +1,6 @@
 -- A workspace whose heads are zeros has no known cell. Assumes nothing.
-use mathlib.Core.Path.{_≡_, subst⁻¹, _∙_}
-use mathlib.Core.List.{List, _++_}
+use mathlib.Core.Path.{_≡_, sym, subst, _∙_}
+use mathlib.Core.List.{List}
 use Prim.Native.Nat.{ℕ, _*_, _≤_}
 use native.Mathlib.Omega.{arith}
 use lib.ListN.{length, drop, replicate, length-append, length-replicate, length-drop}
@@ -8,21 +8,17 @@ use lib.Seq.{drop-at}
 use Rattle.words.specs.Word.{little}
 use Rattle.words.specs.Laws.{word-zeros}
 use Rattle.known.specs.ChainLaws.{chain-none}
-use Rattle.known.specs.Known.{Roomy, Emptied, bucketOf, cellIn, headIn, linkIn}
+use Rattle.known.specs.Known.{Roomy, Emptied, bucketOf, cellIn, headIn, linkIn, clearIn}
 
--- the bytes with zeros for the heads
-abbrev withoutHeads : List ℕ → ℕ → List ℕ
-withoutHeads l room = replicate (4 * room) 0 ++ drop (4 * room) l
-
-length-without-heads : (l : List ℕ) (room : ℕ) → 4 * room ≤ length l → length (withoutHeads l room) ≡ length l
-length-without-heads l room within =
+pub length-clear : (l : List ℕ) (room : ℕ) → 4 * room ≤ length l → length (clearIn l room) ≡ length l
+length-clear l room within =
     length-append (replicate (4 * room) 0) (drop (4 * room) l)
     ∙ omega (arith, length-replicate {A = ℕ} (4 * room) 0, length-drop (4 * room) l)
 
-none-known : (l : List ℕ) (room : ℕ) → Roomy l room → Emptied l (withoutHeads l room) room
-none-known l room roomy =
-    let after = withoutHeads l room in
-    let long = length-without-heads l room (omega arith) in
+pub emptied : (l : List ℕ) (room : ℕ) → Roomy l room → Emptied l (clearIn l room) room
+emptied l room roomy =
+    let after = clearIn l room in
+    let long = length-clear l room (omega arith) in
     record {
       known = record {
         roomy = record { size = omega arith; small = roomy .small; least = roomy .least };
@@ -33,5 +29,5 @@ none-known l room roomy =
       length-kept = long;
     }
 
-pub emptied : (l l′ : List ℕ) (room : ℕ) → Roomy l room → l′ ≡ withoutHeads l room → Emptied l l′ room
-emptied l l′ room roomy e = subst⁻¹ (λ (m : List ℕ). Emptied l m room) e (none-known l room roomy)
+pub emptied-by : (l l′ : List ℕ) (room : ℕ) → Roomy l room → l′ ≡ clearIn l room → Emptied l l′ room
+emptied-by l l′ room roomy e = subst (λ (m : List ℕ). Emptied l m room) (sym e) (emptied l room roomy)

@@ -3,9 +3,9 @@
 use mathlib.Core.Path.{_≡_}
 use mathlib.Core.List.{List, [], _∷_, _++_}
 use Prim.Native.Nat.{ℕ, zero, suc, _+_, _*_, _/_, _%_, _≤_, _<_}
-use lib.ListN.{length, drop}
+use lib.ListN.{length, drop, replicate}
 use Rattle.refusal.specs.declared.Cell.{Cell}
-use Rattle.words.specs.Word.{little, word}
+use Rattle.words.specs.Word.{little, word, stored}
 use Rattle.known.specs.Chain.{Chain}
 
 -- ---- chains
@@ -44,6 +44,25 @@ cellsIn l room i (suc n) = cellIn l room i ∷ cellsIn l room (suc i) n
 -- the known cells, in the order of first sight
 abbrev pub knownCells : List ℕ → ℕ → ℕ → List Cell
 knownCells l room n = cellsIn l room 0 n
+
+-- ---- what `add` and `clear` leave, whatever the bytes hold
+
+-- a record behind the others: the cell's words, the link to the head that stood there, and the record as head
+abbrev pub withHigh : List ℕ → ℕ → ℕ → Cell → List ℕ
+withHigh l room n c = stored little 8 l (recordPlace room n) (c .high)
+
+abbrev pub withLow : List ℕ → ℕ → ℕ → Cell → List ℕ
+withLow l room n c = stored little 8 (withHigh l room n c) (recordPlace room n + 8) (c .low)
+
+abbrev pub withLink : List ℕ → ℕ → ℕ → Cell → List ℕ
+withLink l room n c = stored little 4 (withLow l room n c) (recordPlace room n + 16) (headIn l (bucketOf c room))
+
+abbrev pub addIn : List ℕ → ℕ → ℕ → Cell → List ℕ
+addIn l room n c = stored little 4 (withLink l room n c) (4 * bucketOf c room) (n + 1)
+
+-- zeros for the heads
+abbrev pub clearIn : List ℕ → ℕ → List ℕ
+clearIn l room = replicate (4 * room) 0 ++ drop (4 * room) l
 
 -- ---- a workspace with n known cells
 

@@ -1,8 +1,8 @@
 // The cells that a walk through the lattice knows, in bytes that its caller lends: records in the order of first sight, found by hash chains.
 ghost use mathlib.Core.Path.{_≡_};
 ghost use Prim.Native.Nat.{_+_, _≤_, _<_};
-ghost use Rattle.known.specs.Known.{Roomy, mixedOf, bucketOf, cellIn, Known, Added, Emptied};
-ghost use Rattle.known.specs.Found.{Right};
+ghost use Rattle.known.specs.Known.{Roomy, mixedOf, bucketOf, cellIn, addIn, clearIn};
+ghost use Rattle.known.specs.Seek.{findIn};
 ghost use Rattle.known.specs.Workspace.{isRoom, zeros};
 use refusal::Cell;
 
@@ -45,27 +45,33 @@ pub fn cell_at(workspace: &[u8], room: usize, i: usize) -> Cell
     }
 }
 
-// Along one chain, from its last record back to its first.
+// Along one chain, from its last record back to its first. A head above the count, or a link that does not fall, ends the chain.
 pub fn find(workspace: &[u8], room: usize, count: usize, c: Cell) -> Found
-    requires { ⌜ Known (now workspace) room count ⌝ }
-    ensures { λ r. ⌜ Right (now (workspace .entry)) room count c r ⌝ }
+    requires { ⌜ Roomy (now workspace) room ⌝ }
+    requires { ⌜ count ≤ room ⌝ }
+    ensures { λ r. ⌜ r ≡ findIn (now (workspace .entry)) room count c ⌝ }
 {
     let mut link = words::read32_little(workspace, 4 * bucket(c, room)) as usize;
-    while 0 < link {
-        let i = link - 1;
+    let mut bound = count;
+    loop {
+        // One test for both: a link of 0, which is none, is far above the bound.
+        let i = std::num::wrapping_sub_usize(link, 1);
+        if i >= bound {
+            return Found::Nowhere;
+        }
         if cell::same(cell_at(workspace, room, i), c) {
             return Found::At(i);
         }
+        bound = i;
         link = words::read32_little(workspace, 4 * room + 40 * i + 16) as usize;
     }
-    Found::Nowhere
 }
 
 // A cell's record behind the others, the last on its chain.
 pub fn add(workspace: &mut [u8], room: usize, count: usize, c: Cell)
-    requires { ⌜ Known (now workspace) room count ⌝ }
+    requires { ⌜ Roomy (now workspace) room ⌝ }
     requires { ⌜ count < room ⌝ }
-    ensures { λ _. ⌜ Added (now (workspace .entry)) (now (workspace .exit)) room count c ⌝ }
+    ensures { λ _. ⌜ now (workspace .exit) ≡ addIn (now (workspace .entry)) room count c ⌝ }
 {
     let head = 4 * bucket(c, room);
     let at = 4 * room + 40 * count;
@@ -79,7 +85,7 @@ pub fn add(workspace: &mut [u8], room: usize, count: usize, c: Cell)
 // No cell is known, whatever the bytes hold.
 pub fn clear(workspace: &mut [u8], room: usize)
     requires { ⌜ Roomy (now workspace) room ⌝ }
-    ensures { λ _. ⌜ Emptied (now (workspace .entry)) (now (workspace .exit)) room ⌝ }
+    ensures { λ _. ⌜ now (workspace .exit) ≡ clearIn (now (workspace .entry)) room ⌝ }
 {
     layer::records::zero(workspace, 0, 4 * room);
 }

@@ -2,7 +2,7 @@
 use mathlib.Core.Path.{_≡_, sym, ap, _∙_}
 use mathlib.Core.Bool.{false}
 use mathlib.Core.List.{List}
-use Prim.Native.Nat.{ℕ, _+_, _≤_, _<_}
+use Prim.Native.Nat.{ℕ, _+_, _^_, _≤_, _<_}
 use native.Mathlib.Decide.{ℕ-discrete}
 use native.Mathlib.Omega.{arith}
 use lib.Dec.{ltb}
@@ -10,11 +10,14 @@ use Rattle.refusal.specs.declared.Cell.{Cell}
 use Rattle.refusal.specs.Table.{rawOf}
 use Rattle.words.specs.Word.{little, word, Bytes}
 use Rattle.cell.specs.Laws.{Words}
-use Rattle.known.specs.Known.{Added, recordPlace, cellIn}
+use Rattle.known.specs.Known.{Roomy, Added, recordPlace, cellIn, addIn, clearIn}
 use Rattle.known.specs.Laws.{added-cell}
+use Rattle.known.proofs.Added.{added}
+use Rattle.known.proofs.Emptied.{emptied}
 use Rattle.search.specs.Search.{row, put}
-use Rattle.rows.specs.Rows.{beforeIn, rowIn, rowsIn, Rows, Written, Changed}
+use Rattle.rows.specs.Rows.{beforeIn, rowIn, rowsIn, appendIn, Rows, Written, Changed}
 use Rattle.rows.specs.RowsLaws.{row-is, row-same, put-row-behind}
+use Rattle.rows.proofs.Written.{written}
 
 module _ (l m l′ : List ℕ) (room n : ℕ) (c : Cell) (g before : ℕ) (rows : Rows l room n) (within : before ≤ n) (nowhere : (j : ℕ) → j < n → cellIn l room j ≡ c → ⊥) (added : Added l m room n c) (wrote : Written m l′ room n 0 g before) where
   cell-old : (j : ℕ) → j < n → cellIn l′ room j ≡ cellIn l room j
@@ -68,3 +71,23 @@ module _ (l m l′ : List ℕ) (room n : ℕ) (c : Cell) (g before : ℕ) (rows 
         rest = wrote .rest ∙ added .rest;
         length-kept = wrote .length-kept ∙ added .length-kept;
       }
+
+-- what `append` leaves where the bytes hold rows without the cell
+module _ (l : List ℕ) (room n : ℕ) (c : Cell) (g before : ℕ) (rows : Rows l room n) (less : n < room) (within : before ≤ n) (nowhere : (j : ℕ) → j < n → cellIn l room j ≡ c → ⊥) (cost : g < 256 ^ 8) (words : Words c) where
+  added-in : Added l (addIn l room n c) room n c
+  added-in = added l room n c (rows .known) less words
+
+  written-in : Written (addIn l room n c) (appendIn l room n c g before) room n 0 g before
+  written-in =
+      let small = rows .known .roomy .small in
+      written (addIn l room n c) room n g before (added-in .known .roomy) less cost (omega arith)
+
+  pub cell-in : cellIn (appendIn l room n c g before) room n ≡ c
+  cell-in = cell-new l (addIn l room n c) (appendIn l room n c g before) room n c g before rows within nowhere added-in written-in
+
+  pub appended-in : Bytes l → Changed l (appendIn l room n c g before) room n (n + 1) (put (rawOf c) g (rawOf (cellIn (appendIn l room n c g before) room before)) (rowsIn l room n))
+  appended-in bytes = appended l (addIn l room n c) (appendIn l room n c g before) room n c g before rows within nowhere added-in written-in bytes words
+
+-- what `clear` leaves
+pub cleared-in : (l : List ℕ) (room : ℕ) → Roomy l room → Rows (clearIn l room) room 0
+cleared-in l room roomy = record { known = emptied l room roomy .known; apart = λ i j less fewer e. absurd (omega arith); back = λ i less. absurd (omega arith) }

@@ -1,3 +1,4 @@
 pub mod Looked
 pub mod Written
 pub mod Appended
+mod OneAnswer

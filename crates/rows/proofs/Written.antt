@@ -1,5 +1,5 @@
 -- A row written into a record: its fields are read back, and no cell, link, head or field of another record changes. Assumes nothing.
-use mathlib.Core.Path.{_≡_, sym, ap, subst⁻¹, _∙_}
+use mathlib.Core.Path.{_≡_, sym, ap, _∙_}
 use mathlib.Core.Logic.{_≢_}
 use mathlib.Core.List.{List}
 use Prim.Native.Nat.{ℕ, _+_, _*_, _^_, _<_}
@@ -8,21 +8,18 @@ use native.Mathlib.Omega.{arith}
 use lib.Dec.{ltb}
 use lib.ListN.{length, drop}
 use Rattle.refusal.specs.Table.{rawOf}
-use Rattle.words.specs.Word.{little, word, stored, Bytes, Apart}
+use Rattle.words.specs.Word.{little, word, Bytes, Apart}
 use Rattle.words.specs.Laws.{length-stored, word-stored, word-stored-apart, drop-after-stored}
 use Rattle.known.specs.Known.{Roomy, Known, recordPlace, cellIn}
 use Rattle.known.specs.Laws.{cell-beside-field, known-beside-field}
 use Rattle.search.specs.Search.{Row, row, put, close}
-use Rattle.rows.specs.Rows.{markIn, gIn, beforeIn, rowIn, rowsIn, Rows, Written, Changed}
+use Rattle.rows.specs.Rows.{markIn, gIn, beforeIn, rowIn, rowsIn, withMark, withCost, closeIn, lowerIn, Rows, Written, Changed}
 use Rattle.rows.specs.RowsLaws.{row-is, row-same, put-row, close-row}
 
 -- ---- the mark alone
 
-abbrev withMark : List ℕ → ℕ → ℕ → ℕ → List ℕ
-withMark l room i mark = stored little 4 l (recordPlace room i + 20) mark
-
 module _ (l : List ℕ) (room i : ℕ) (roomy : Roomy l room) (below : i < room) where
-  marked : (mark : ℕ) → mark < 256 ^ 4 → Written l (withMark l room i mark) room i mark (gIn l room i) (beforeIn l room i)
+  pub marked : (mark : ℕ) → mark < 256 ^ 4 → Written l (withMark l room i mark) room i mark (gIn l room i) (beforeIn l room i)
   marked mark small =
       let size = roomy .size in
       record {
@@ -36,16 +33,7 @@ module _ (l : List ℕ) (room i : ℕ) (roomy : Roomy l room) (below : i < room)
         length-kept = length-stored little 4 l (recordPlace room i + 20) mark;
       }
 
-  pub marked-by : {l′ : List ℕ} → l′ ≡ stored little 4 l (recordPlace room i + 20) 1 → Written l l′ room i 1 (gIn l room i) (beforeIn l room i)
-  marked-by e = subst⁻¹ (λ (m : List ℕ). Written l m room i 1 (gIn l room i) (beforeIn l room i)) e (marked 1 (omega arith))
-
 -- ---- the whole row
-
-abbrev withCost : List ℕ → ℕ → ℕ → ℕ → List ℕ
-withCost l room i g = stored little 8 (withMark l room i 0) (recordPlace room i + 24) g
-
-abbrev withRow : List ℕ → ℕ → ℕ → ℕ → ℕ → List ℕ
-withRow l room i g before = stored little 4 (withCost l room i g) (recordPlace room i + 32) before
 
 module _ (l : List ℕ) (room i g before : ℕ) where
   length-mark : length (withMark l room i 0) ≡ length l
@@ -54,54 +42,54 @@ module _ (l : List ℕ) (room i g before : ℕ) where
   length-cost : length (withCost l room i g) ≡ length l
   length-cost = length-stored little 8 (withMark l room i 0) (recordPlace room i + 24) g ∙ length-mark
 
-  length-row : length (withRow l room i g before) ≡ length l
+  pub length-row : length (lowerIn l room i g before) ≡ length l
   length-row = length-stored little 4 (withCost l room i g) (recordPlace room i + 32) before ∙ length-cost
 
   -- a word that no store covers stays
-  word-kept : (k q : ℕ) → Apart (recordPlace room i + 20) 16 q k → word little k (withRow l room i g before) q ≡ word little k l q
+  word-kept : (k q : ℕ) → Apart (recordPlace room i + 20) 16 q k → word little k (lowerIn l room i g before) q ≡ word little k l q
   word-kept k q off =
       word-stored-apart little little 4 k (withCost l room i g) (recordPlace room i + 32) before q (omega arith)
       ∙ word-stored-apart little little 8 k (withMark l room i 0) (recordPlace room i + 24) g q (omega arith)
       ∙ word-stored-apart little little 4 k l (recordPlace room i + 20) 0 q (omega arith)
 
-  known-kept : (n : ℕ) → Known l room n → Known (withRow l room i g before) room n
+  known-kept : (n : ℕ) → Known l room n → Known (lowerIn l room i g before) room n
   known-kept n known =
       known-beside-field little 4 (withCost l room i g) room i 32 before (omega arith) (omega arith) n
       (known-beside-field little 8 (withMark l room i 0) room i 24 g (omega arith) (omega arith) n
       (known-beside-field little 4 l room i 20 0 (omega arith) (omega arith) n known))
 
-  cell-kept : (j : ℕ) → cellIn (withRow l room i g before) room j ≡ cellIn l room j
+  cell-kept : (j : ℕ) → cellIn (lowerIn l room i g before) room j ≡ cellIn l room j
   cell-kept j =
       cell-beside-field little 4 (withCost l room i g) room i 32 before (omega arith) (omega arith) j
       ∙ cell-beside-field little 8 (withMark l room i 0) room i 24 g (omega arith) (omega arith) j
       ∙ cell-beside-field little 4 l room i 20 0 (omega arith) (omega arith) j
 
   module _ (roomy : Roomy l room) (below : i < room) (cost : g < 256 ^ 8) (small : before < 256 ^ 4) where
-    mark-new : markIn (withRow l room i g before) room i ≡ 0
+    mark-new : markIn (lowerIn l room i g before) room i ≡ 0
     mark-new =
         let size = roomy .size in
         word-stored-apart little little 4 4 (withCost l room i g) (recordPlace room i + 32) before (recordPlace room i + 20) (omega arith)
         ∙ word-stored-apart little little 8 4 (withMark l room i 0) (recordPlace room i + 24) g (recordPlace room i + 20) (omega arith)
         ∙ word-stored little 4 l (recordPlace room i + 20) 0 (omega arith) (omega arith)
 
-    g-new : gIn (withRow l room i g before) room i ≡ g
+    g-new : gIn (lowerIn l room i g before) room i ≡ g
     g-new =
         let size = roomy .size in
         word-stored-apart little little 4 8 (withCost l room i g) (recordPlace room i + 32) before (recordPlace room i + 24) (omega arith)
         ∙ word-stored little 8 (withMark l room i 0) (recordPlace room i + 24) g (omega (arith, length-mark)) cost
 
-    before-new : beforeIn (withRow l room i g before) room i ≡ before
+    before-new : beforeIn (lowerIn l room i g before) room i ≡ before
     before-new =
         let size = roomy .size in
         word-stored little 4 (withCost l room i g) (recordPlace room i + 32) before (omega (arith, length-cost)) small
 
-    rest-kept : drop (44 * room) (withRow l room i g before) ≡ drop (44 * room) l
+    rest-kept : drop (44 * room) (lowerIn l room i g before) ≡ drop (44 * room) l
     rest-kept =
         drop-after-stored little 4 (withCost l room i g) (recordPlace room i + 32) before (44 * room) (omega arith)
         ∙ drop-after-stored little 8 (withMark l room i 0) (recordPlace room i + 24) g (44 * room) (omega arith)
         ∙ drop-after-stored little 4 l (recordPlace room i + 20) 0 (44 * room) (omega arith)
 
-    written : Written l (withRow l room i g before) room i 0 g before
+    pub written : Written l (lowerIn l room i g before) room i 0 g before
     written =
         record {
           known = known-kept;
@@ -113,12 +101,6 @@ module _ (l : List ℕ) (room i g before : ℕ) where
           rest = rest-kept;
           length-kept = length-row;
         }
-
-    -- the three stores, one after the other
-    pub written-by : {l₁ l₂ l₃ : List ℕ} → l₁ ≡ stored little 4 l (recordPlace room i + 20) 0 → l₂ ≡ stored little 8 l₁ (recordPlace room i + 24) g → l₃ ≡ stored little 4 l₂ (recordPlace room i + 32) before → Written l l₃ room i 0 g before
-    written-by {l₃ = l₃} mark at-cost back =
-        let is : l₃ ≡ withRow l room i g before = cc in
-        subst⁻¹ (λ (m : List ℕ). Written l m room i 0 g before) is written
 
 -- ---- what it leaves of the rows
 
@@ -167,3 +149,16 @@ closed l l′ room n i rows bytes below wrote =
     let within = rows .back i below in
     changed l l′ room n i 1 g before rows within wrote (close (rawOf (cellIn l room i)) (rowsIn l room n))
     (close-row l room n rows bytes i below l′ (row-kept l l′ room n i 1 g before rows within wrote) (row-new l l′ room n i 1 g before rows within wrote))
+
+-- ---- what the functions leave where the bytes hold rows
+
+pub closed-in : (l : List ℕ) (room n i : ℕ) → Rows l room n → Bytes l → i < n → Changed l (closeIn l room i) room n n (close (rawOf (cellIn l room i)) (rowsIn l room n))
+closed-in l room n i rows bytes below =
+    let most = rows .known .count in
+    closed l (closeIn l room i) room n i rows bytes below (marked l room i (rows .known .roomy) (omega arith) 1 (omega arith))
+
+pub lowered-in : (l : List ℕ) (room n i g before : ℕ) → Rows l room n → Bytes l → i < n → before < n → g < 256 ^ 8 → Changed l (lowerIn l room i g before) room n n (put (rawOf (cellIn l room i)) g (rawOf (cellIn l room before)) (rowsIn l room n))
+lowered-in l room n i g before rows bytes below within cost =
+    let most = rows .known .count in
+    let small = rows .known .roomy .small in
+    lowered l (lowerIn l room i g before) room n i g before rows bytes below within (written l room i g before (rows .known .roomy) (omega arith) cost (omega arith))

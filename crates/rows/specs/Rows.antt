@@ -9,8 +9,8 @@ use lib.Dec.{ltb}
 use lib.ListN.{length, drop}
 use Rattle.refusal.specs.declared.Cell.{Cell}
 use Rattle.refusal.specs.Table.{rawOf}
-use Rattle.words.specs.Word.{little, word}
-use Rattle.known.specs.Known.{recordPlace, cellIn, Known}
+use Rattle.words.specs.Word.{little, word, stored}
+use Rattle.known.specs.Known.{recordPlace, cellIn, addIn, Known}
 use Rattle.known.specs.declared.Found.{Found}
 use Rattle.known.specs.declared.Found.the-variants.{At, Nowhere}
 use Rattle.search.specs.Search.{Row, row, find}
@@ -39,13 +39,35 @@ unfoldable pub rowsIn : List ℕ → ℕ → ℕ → List Row
 unfolding rowIn rowsFrom
 rowsIn l room n = rowsFrom (rowIn l room) 0 n
 
+-- ---- what the functions leave, whatever the bytes hold
+
+abbrev pub withMark : List ℕ → ℕ → ℕ → ℕ → List ℕ
+withMark l room i mark = stored little 4 l (recordPlace room i + 20) mark
+
+abbrev pub withCost : List ℕ → ℕ → ℕ → ℕ → List ℕ
+withCost l room i g = stored little 8 (withMark l room i 0) (recordPlace room i + 24) g
+
+-- record i is closed
+abbrev pub closeIn : List ℕ → ℕ → ℕ → List ℕ
+closeIn l room i = withMark l room i 1
+
+-- it is not closed, and has this g and the number of this record before it
+abbrev pub lowerIn : List ℕ → ℕ → ℕ → ℕ → ℕ → List ℕ
+lowerIn l room i g before = stored little 4 (withCost l room i g) (recordPlace room i + 32) before
+
+-- a record more
+abbrev pub appendIn : List ℕ → ℕ → ℕ → Cell → ℕ → ℕ → List ℕ
+appendIn l room n c g before = lowerIn (addIn l room n c) room n g before
+
+-- ---- bytes that hold rows
+
 -- a workspace with n rows: no cell stands twice, and each row's way back leads to a row
 pub record Rows (l : List ℕ) (room n : ℕ) : Type 0 where
   pub known : Known l room n
   pub apart : (i j : ℕ) → i < n → j < n → cellIn l room i ≡ cellIn l room j → i ≡ j
   pub back : (i : ℕ) → i < n → beforeIn l room i < n
 
--- ---- what the functions answer and leave
+-- ---- what the functions answer and leave there
 
 -- the record of a cell is what the definition finds
 abbrev pub Looked : List ℕ → ℕ → ℕ → Cell → Found → Type 0

@@ -132,7 +132,7 @@ unfolding rowsIn
 row-at-place l room n i d below = from-at-place (rowIn l room) 0 n i d below ∙ ap (rowIn l room) (omega arith)
 
 -- cells with one number are one cell
-raw-same : (a b : Cell) → Words a → Words b → rawOf a ≡ rawOf b → a ≡ b
+pub raw-same : (a b : Cell) → Words a → Words b → rawOf a ≡ rawOf b → a ≡ b
 raw-same a b v w e = same-cell a b v w (eq-eqb (rawOf a) (rawOf b) e)
 
 -- a cell that no record has is not found

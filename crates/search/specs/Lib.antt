@@ -5,7 +5,7 @@ pub mod Midway
 pub mod Accepted
 pub mod Ending
 pub mod Rooms
-mod Cases
+pub mod Cases
 pub mod KnownLaws
 pub mod WaitingLaws
 pub mod Kept

@@ -7,3 +7,5 @@ mod Moves
 mod Counted
 mod Answers
 pub mod Points
+pub mod Sifted
+mod OneAnswer

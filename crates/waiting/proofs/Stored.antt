@@ -96,8 +96,7 @@ module _ (l : List ℕ) (i : ℕ) (e : Entry) where
         (record { new = ap keyOf same-entry; others = λ j ne. ap keyOf (other-entry j ne) })
 
 -- the words are read and stored in turn, and each is read before it is stored over
-pub copied : (l first second third fourth : List ℕ) (i j f high low g : ℕ) → 32 * j + 32 ≤ length l
-    → EntryWords (record { f = f; cell = record { high = high; low = low }; g = g })
+pub copied : (l first second third fourth : List ℕ) (i j f high low g : ℕ)
     → f ≡ word little 8 l (32 * i)
     → first ≡ stored little 8 l (32 * j) f
     → high ≡ word little 8 first (32 * i + 8)
@@ -106,9 +105,9 @@ pub copied : (l first second third fourth : List ℕ) (i j f high low g : ℕ) �
     → third ≡ stored little 8 second (32 * j + 16) low
     → g ≡ word little 8 third (32 * i + 24)
     → fourth ≡ stored little 8 third (32 * j + 24) g
-    → Replaced (keyIn l) (keyIn fourth) j (keyIn l i)
-unfolding keyIn entryStored
-copied l first second third fourth i j f high low g room words f-read f-put high-read high-put low-read low-put g-read g-put =
+    → fourth ≡ entryStored l j (entryAt l i)
+unfolding entryStored
+copied l first second third fourth i j f high low g f-read f-put high-read high-put low-read low-put g-read g-put =
     let past-f : (q : ℕ) → Apart (32 * j) 8 q 8 → word little 8 first q ≡ word little 8 l q = λ q h. ap (λ (x : List ℕ). word little 8 x q) f-put ∙ beside l (32 * j) f q h in
     let past-high : (q : ℕ) → Apart (32 * j + 8) 8 q 8 → word little 8 second q ≡ word little 8 first q = λ q h. ap (λ (x : List ℕ). word little 8 x q) high-put ∙ beside first (32 * j + 8) high q h in
     let past-low : (q : ℕ) → Apart (32 * j + 16) 8 q 8 → word little 8 third q ≡ word little 8 second q = λ q h. ap (λ (x : List ℕ). word little 8 x q) low-put ∙ beside second (32 * j + 16) low q h in
@@ -118,4 +117,4 @@ copied l first second third fourth i j f high low g room words f-read f-put high
     let read : Entry = record { f = f; cell = record { high = high; low = low }; g = g } in
     let read-is : read ≡ entryAt l i = λ t. record { f = f-read t; cell = record { high = high-is t; low = low-is t }; g = g-is t } in
     let put : fourth ≡ entryStored l j read = cc in
-    subst (λ (x : ℕ). Replaced (keyIn l) (keyIn fourth) j x) (ap keyOf read-is) (stored-replaced l j read room words put)
+    put ∙ ap (entryStored l j) read-is

@@ -3,3 +3,4 @@ pub mod Entries
 pub mod Sorted
 pub mod Steps
 pub mod Laws
+pub mod Sift

@@ -21,20 +21,7 @@ pub record Popped (l after : List ℕ) (size : ℕ) (e : Entry) : Type 0 where
   pub words : EntryWords e
   pub long : length after ≡ length l
 
--- ---- the steps
-
--- r is a or the place after it, and has the lesser key of the two
-pub record LesserOfTwo (key : ℕ → ℕ) (a r : ℕ) : Type 0 where
-  pub from : a ≤ r
-  pub to : r ≤ a + 1
-  pub first : key r ≤ key a
-  pub second : key r ≤ key (a + 1)
-
--- r is one of the four places from a on, and has the least key of the four
-pub record LeastOfFour (key : ℕ → ℕ) (a r : ℕ) : Type 0 where
-  pub from : a ≤ r
-  pub to : r ≤ a + 3
-  pub least : (j : ℕ) → a ≤ j → j ≤ a + 3 → key r ≤ key j
+-- ---- the steps in a heap
 
 -- c is a child of i, and has the least key of its children
 pub record LeastChild (key : ℕ → ℕ) (size i c : ℕ) : Type 0 where

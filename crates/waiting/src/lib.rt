@@ -1,12 +1,11 @@
-// The waiting entries of a search, in bytes that a caller lends: a heap of four children, which has its least key at place 0.
+// The waiting entries of a search, in bytes that a caller lends: a heap of four children, which has its least key at place 0. What each function leaves is a function of the bytes, whether they are a heap or not.
 // An entry is four little-endian words: f, the cell's high word, its low word, g. In this order they decide which entry is less.
 ghost use mathlib.Core.Path.{_≡_};
-ghost use Prim.Native.Nat.{_+_, _*_, _≤_, _<_};
+ghost use Prim.Native.Nat.{_+_, _-_, _*_, _≤_, _<_};
 ghost use lib.Dec.{ltb};
 ghost use lib.ListN.{length};
-ghost use Rattle.waiting.specs.Heap.{Heap, Hole, Below, Replaced};
-ghost use Rattle.waiting.specs.Entries.{keyOf, entryAt, keyIn};
-ghost use Rattle.waiting.specs.Steps.{LesserOfTwo, LeastOfFour, LeastChild, Dug, Risen, Pushed, Popped};
+ghost use Rattle.waiting.specs.Entries.{keyOf, entryAt, keyIn, entryStored};
+ghost use Rattle.waiting.specs.Sift.{firstLeast, childIn, dugIn, risenIn, pushIn, popIn};
 use refusal::Cell;
 
 pub struct Entry {
@@ -37,7 +36,7 @@ fn entry_at(heap: &[u8], i: usize) -> Entry
 // Puts e at place i.
 fn store(heap: &mut [u8], i: usize, e: Entry)
     requires { ⌜ 32 * i + 32 ≤ length (now heap) ⌝ }
-    ensures { λ _. ⌜ Replaced (keyIn (now (heap .entry))) (keyIn (now (heap .exit))) i (keyOf e) ⌝ }
+    ensures { λ _. ⌜ now (heap .exit) ≡ entryStored (now (heap .entry)) i e ⌝ }
 {
     let at = 32 * i;
     words::write64_little(heap, at, e.f);
@@ -49,7 +48,7 @@ fn store(heap: &mut [u8], i: usize, e: Entry)
 // Puts the entry at `from` at `to` as well: word by word, so that each is one load and one store.
 fn copy(heap: &mut [u8], from: usize, to: usize)
     requires { ⌜ (32 * from + 32 ≤ length (now heap)) × (32 * to + 32 ≤ length (now heap)) ⌝ }
-    ensures { λ _. ⌜ Replaced (keyIn (now (heap .entry))) (keyIn (now (heap .exit))) to (keyIn (now (heap .entry)) from) ⌝ }
+    ensures { λ _. ⌜ now (heap .exit) ≡ entryStored (now (heap .entry)) to (entryAt (now (heap .entry)) from) ⌝ }
 {
     let source = 32 * from;
     let target = 32 * to;
@@ -102,28 +101,28 @@ fn less_at(heap: &[u8], i: usize, j: usize) -> bool
     a < b
 }
 
-// The place of the lesser of the entries at a and a + 1, with no branch on which it is.
+// The place of the lesser of the entries at a and a + 1, of equal ones a, with no branch on which it is.
 fn lesser(heap: &[u8], a: usize) -> usize
     requires { ⌜ 32 * a + 64 ≤ length (now heap) ⌝ }
-    ensures { λ r. ⌜ LesserOfTwo (keyIn (now (heap .entry))) a r ⌝ }
+    ensures { λ r. ⌜ r ≡ firstLeast (keyIn (now (heap .entry))) a 1 ⌝ }
 {
     a + less_at(heap, a + 1, a) as usize
 }
 
-// The place of the least of the four entries from a on.
+// The place of the least of the four entries from a on, the first of equal ones.
 fn least_of_four(heap: &[u8], a: usize) -> usize
     requires { ⌜ 32 * a + 128 ≤ length (now heap) ⌝ }
-    ensures { λ r. ⌜ LeastOfFour (keyIn (now (heap .entry))) a r ⌝ }
+    ensures { λ r. ⌜ r ≡ firstLeast (keyIn (now (heap .entry))) a 3 ⌝ }
 {
     let b = lesser(heap, a);
     let c = lesser(heap, a + 2);
     b + (c - b) * (less_at(heap, c, b) as usize)
 }
 
-// The place of the least child of i, which has one at least.
+// The place of the least child of i, which has one at least; the first of equal ones.
 fn least_child(heap: &[u8], size: usize, i: usize) -> usize
     requires { ⌜ (4 * i + 1 < size) × (32 * size ≤ length (now heap)) ⌝ }
-    ensures { λ r. ⌜ LeastChild (keyIn (now (heap .entry))) size i r ⌝ }
+    ensures { λ r. ⌜ r ≡ childIn (now (heap .entry)) size i ⌝ }
 {
     let first = 4 * i + 1;
     if first + 3 < size {
@@ -142,9 +141,8 @@ fn least_child(heap: &[u8], size: usize, i: usize) -> usize
 
 // Moves the hole at place 0 down to where it has no child, always to the least one; answers that place.
 fn dig(heap: &mut [u8], size: usize) -> usize
-    requires { ⌜ Hole (keyIn (now heap)) size 0 ⌝ }
     requires { ⌜ (0 < size) × (32 * size ≤ length (now heap)) ⌝ }
-    ensures { λ r. ⌜ Dug (keyIn (now (heap .entry))) (keyIn (now (heap .exit))) size r ⌝ }
+    ensures { λ r. ⌜ (now (heap .exit), r) ≡ dugIn size (now (heap .entry)) size 0 ⌝ }
 {
     let mut hole = 0;
     while 4 * hole + 1 < size {
@@ -157,9 +155,8 @@ fn dig(heap: &mut [u8], size: usize) -> usize
 
 // Moves the hole up until e fits into it, and puts e there.
 fn rise(heap: &mut [u8], size: usize, start: usize, e: Entry)
-    requires { ⌜ Hole (keyIn (now heap)) size start × Below (keyIn (now heap)) size start (keyOf e) ⌝ }
     requires { ⌜ (start < size) × (32 * size ≤ length (now heap)) ⌝ }
-    ensures { λ _. ⌜ Risen (keyIn (now (heap .entry))) (keyIn (now (heap .exit))) size start (keyOf e) ⌝ }
+    ensures { λ _. ⌜ now (heap .exit) ≡ risenIn start (now (heap .entry)) start e ⌝ }
 {
     let mut hole = start;
     while 0 < hole {
@@ -175,20 +172,26 @@ fn rise(heap: &mut [u8], size: usize, start: usize, e: Entry)
     store(heap, 0, e);
 }
 
-// Adds e to the entries that wait.
+// Adds e to the entries that wait: where they are a heap they stay one (pushed-in).
 pub fn push(heap: &mut [u8], size: usize, e: Entry)
-    requires { ⌜ Heap (keyIn (now heap)) size ⌝ }
     requires { ⌜ 32 * (size + 1) ≤ length (now heap) ⌝ }
-    ensures { λ _. ⌜ Pushed (now (heap .entry)) (now (heap .exit)) size e ⌝ }
+    ensures { λ _. ⌜ now (heap .exit) ≡ pushIn (now (heap .entry)) size e ⌝ }
 {
     rise(heap, size + 1, size, e);
 }
 
-// Takes the least of the entries that wait.
-pub fn pop(heap: &mut [u8], size: usize) -> Entry
-    requires { ⌜ Heap (keyIn (now heap)) size ⌝ }
+// The first of the entries that wait, which stays.
+pub fn first(heap: &[u8], size: usize) -> Entry
     requires { ⌜ (0 < size) × (32 * size ≤ length (now heap)) ⌝ }
-    ensures { λ r. ⌜ Popped (now (heap .entry)) (now (heap .exit)) size r ⌝ }
+    ensures { λ r. ⌜ r ≡ entryAt (now (heap .entry)) 0 ⌝ }
+{
+    entry_at(heap, 0)
+}
+
+// Takes the first of the entries that wait: where they are a heap, the least (popped-in).
+pub fn pop(heap: &mut [u8], size: usize) -> Entry
+    requires { ⌜ (0 < size) × (32 * size ≤ length (now heap)) ⌝ }
+    ensures { λ r. ⌜ (r ≡ entryAt (now (heap .entry)) 0) × (now (heap .exit) ≡ popIn (now (heap .entry)) size) ⌝ }
 {
     let least = entry_at(heap, 0);
     let rest = size - 1;

@@ -1,8 +1,7 @@
 -- The limit, the goal, neighbours that are refused, or all fourteen.
 use mathlib.Core.Path.{sym, _∙_}
-use native.Mathlib.Omega.{arith}
-use Rattle.known.specs.Laws.{cell-words}
-use Rattle.expansion.specs.EnterLaws.{spent-meets, arrived-meets, alone-meets, around-meets}
+use Rattle.layer.specs.Layer.{rowsOf}
+use Rattle.expansion.specs.BytesLaws.{entered-spent, entered-goal, entered-by}
 use borrow.Author.Needs.{needs}
 use Rattle.expansion.proofs.enter.Statement.{statement}
 use Rattle.expansion.proofs.enter.Tie as tie
@@ -11,7 +10,12 @@ returns : tie.Need-returns
 returns c =
     let entry = c .before .before .before .before .before .before in
     let args = entry .args in
-    spent-meets (args .plan) _ _ _ _ (args .sizes) (args .at) (args .g) (c .if1 .taken)
+    let w = args .workspace .now in
+    let heap = args .heap .now in
+    let p = args .plan in
+    let z = args .sizes in
+    let rows = rowsOf 20 (args .flags .now) (args .count) in
+    sym (entered-spent p rows w heap z (args .at) (args .g) (c .if1 .taken))
 
 cell-at-requires : tie.Need-cell-at-requires
 cell-at-requires c κs = search needs
@@ -27,10 +31,14 @@ returns-2 c =
     let at-same = c .before in
     let at-cell-at = at-same .before in
     let at-if1 = at-cell-at .before .before in
-    let at-slice-known = at-if1 .before .before .before .before .before in
-    let entry = at-slice-known .before in
+    let entry = at-if1 .before .before .before .before .before .before in
     let args = entry .args in
-    arrived-meets (args .plan) _ _ _ _ (args .sizes) (args .at) (args .g) (at-if1 .if1 .left) _ (at-cell-at .cell-at .ensures) (λ k. omega (arith, at-slice-known .slice-known .given k)) (entry .pre .1 .1 .1) (entry .pre .0) (sym (at-same .same .ensures) ∙ c .if2 .taken)
+    let w = args .workspace .now in
+    let heap = args .heap .now in
+    let p = args .plan in
+    let z = args .sizes in
+    let rows = rowsOf 20 (args .flags .now) (args .count) in
+    sym (entered-goal p rows w heap z (args .at) (args .g) (at-if1 .if1 .left) _ (at-cell-at .cell-at .ensures) (sym (at-same .same .ensures) ∙ c .if2 .taken))
 
 get-neighbors-requires : tie.Need-get-neighbors-requires
 get-neighbors-requires c κs = search needs
@@ -55,10 +63,14 @@ returns-3 c =
     let at-same = at-if2 .before in
     let at-cell-at = at-same .before in
     let at-if1 = at-cell-at .before .before in
-    let at-slice-known = at-if1 .before .before .before .before .before in
-    let entry = at-slice-known .before in
+    let entry = at-if1 .before .before .before .before .before .before in
     let args = entry .args in
-    alone-meets (args .plan) _ _ _ _ (args .sizes) (args .at) (args .g) (at-if1 .if1 .left) _ (at-cell-at .cell-at .ensures) (cell-words _ (args .plan .known) (args .at) (λ k. omega (arith, at-slice-known .slice-known .given k))) (sym (at-same .same .ensures) ∙ at-if2 .if2 .left) _ (at-get-neighbors .get-neighbors .ensures) _ (at-outcome .outcome .given .1)
+    let w = args .workspace .now in
+    let heap = args .heap .now in
+    let p = args .plan in
+    let z = args .sizes in
+    let rows = rowsOf 20 (args .flags .now) (args .count) in
+    sym (entered-by p rows w heap z (args .at) (args .g) (at-if1 .if1 .left) _ (at-cell-at .cell-at .ensures) (sym (at-same .same .ensures) ∙ at-if2 .if2 .left) _ (at-get-neighbors .get-neighbors .ensures) _ (at-outcome .outcome .given .1))
 
 same-length-3 : tie.Need-same-length-3
 same-length-3 c = search needs
@@ -75,10 +87,14 @@ returns-4 c =
     let at-same = at-if2 .before in
     let at-cell-at = at-same .before in
     let at-if1 = at-cell-at .before .before in
-    let at-slice-known = at-if1 .before .before .before .before .before in
-    let entry = at-slice-known .before in
+    let entry = at-if1 .before .before .before .before .before .before in
     let args = entry .args in
-    around-meets (args .plan) _ _ _ _ (args .sizes) (args .at) (args .g) (at-if1 .if1 .left) _ (at-cell-at .cell-at .ensures) (cell-words _ (args .plan .known) (args .at) (λ k. omega (arith, at-slice-known .slice-known .given k))) (sym (at-same .same .ensures) ∙ at-if2 .if2 .left) _ (at-get-neighbors .get-neighbors .ensures) (at-enum-told .enum-told .given .1) _ _ _ (at-relax-all .relax-all .ensures)
+    let w = args .workspace .now in
+    let heap = args .heap .now in
+    let p = args .plan in
+    let z = args .sizes in
+    let rows = rowsOf 20 (args .flags .now) (args .count) in
+    (at-relax-all .relax-all) .ensures ∙ sym (entered-by p rows w heap z (args .at) (args .g) (at-if1 .if1 .left) _ (at-cell-at .cell-at .ensures) (sym (at-same .same .ensures) ∙ at-if2 .if2 .left) _ (at-get-neighbors .get-neighbors .ensures) _ (at-enum-told .enum-told .given .1))
 
 pub enter-spec : {M : Type 1} → statement M
 enter-spec =

@@ -1,7 +1,10 @@
--- An estimate that is refused, a heap that is full, or the row and the entry of a first way.
 use native.Mathlib.Omega.{arith}
-use Rattle.cell.specs.Laws.{Words}
-use Rattle.expansion.specs.StateLaws.{waiting-room, refused-meets, full-meets, fresh-meets}
+use native.Mathlib.Omega.{arith}
+-- An estimate that is refused, a heap that is full, or the record and the entry of a first way.
+use mathlib.Core.Path.{_∙_}
+use Prim.Native.Nat.{_+_}
+use Rattle.rows.specs.Rows.{appendIn}
+use Rattle.expansion.specs.BytesLaws.{pushed-stopped, pushed-full, pushed-going, fresh-is}
 use borrow.Author.Needs.{needs}
 use Rattle.expansion.proofs.fresh.Statement.{statement}
 use Rattle.expansion.proofs.fresh.Tie as tie
@@ -19,38 +22,46 @@ returns : tie.Need-returns
 returns c =
     let at-h = c .before .before .before .before in
     let at-ahead = at-h .before .before in
-    let entry = at-ahead .before .before .before .before in
+    let entry = at-ahead .before .before .before in
     let args = entry .args in
-    full-meets (args .plan) _ _ (args .sizes) _ _ _ _ (waiting-room (args .plan) _ _) _ _ (rw (at-h .h .given .1) at (at-ahead .ahead .ensures .0)) (c .if1 .taken)
+    let w = args .workspace .now in
+    let p = args .plan in
+    let z = args .sizes in
+    pushed-full p w (args .heap .now) z (appendIn w (p .known) (z .known) (args .n) (args .g) (args .at)) (z .known + 1) (args .n) (args .g) _ _ (rw (at-h .h .given .1) at (at-ahead .ahead .ensures .0)) (c .if1 .taken)
+    ∙ fresh-is p w (args .heap .now) z (args .at) (args .n) (args .g)
 
 append-requires : tie.Need-append-requires
-append-requires c κs =
-    let entry = c .before .before .before .before .before .before .before .before .before .before .before in
-    (entry .pre .0 .rows, (entry .pre .1 .1 .1 .0, (omega (arith, entry .pre .1 .1 .0), entry .pre .1 .1 .1 .1)))
+append-requires c κs = search needs
 
 plus-requires : tie.Need-plus-requires
 plus-requires c κs =
     let at-h = c .before .before .before .before .before .before .before .before in
     let at-ahead = at-h .before .before in
-    let entry = at-ahead .before .before .before .before in
+    let entry = at-ahead .before .before .before in
     (entry .pre .1 .0, rw (at-h .h .given .1) at (at-ahead .ahead .ensures .1))
 
 push-requires : tie.Need-push-requires
 push-requires c κs = search needs
 
-add-t24 : tie.Need-add-t24
-add-t24 c = search needs
+add-t22 : tie.Need-add-t22
+add-t22 c =
+    let entry = c .before .before .before .before .before .before .before .before .before .before .before .before .before .before .before .before .before .before .before in
+    omega (arith, entry .pre .0 .known, entry .pre .0 .roomy .small)
 
-add-t25 : tie.Need-add-t25
-add-t25 c = search needs
+add-t23 : tie.Need-add-t23
+add-t23 c = search needs
 
 returns-2 : tie.Need-returns-2
 returns-2 c =
     let at-r = c .before in
     let at-ahead = at-r .before .before in
-    let entry = at-ahead .before .before .before .before in
+    let entry = at-ahead .before .before .before in
     let args = entry .args in
-    refused-meets (args .plan) _ _ (args .sizes) _ _ _ _ (waiting-room (args .plan) _ _) _ _ (rw (at-r .r .given .1) at (at-ahead .ahead .ensures .0))
+    let w = args .workspace .now in
+    let p = args .plan in
+    let z = args .sizes in
+    pushed-stopped p w (args .heap .now) z (appendIn w (p .known) (z .known) (args .n) (args .g) (args .at)) (z .known + 1) (args .n) (args .g) _ _ (rw (at-r .r .given .1) at (at-ahead .ahead .ensures .0))
+    ∙ fresh-is p w (args .heap .now) z (args .at) (args .n) (args .g)
 
 same-length : tie.Need-same-length
 same-length c = search needs
@@ -66,10 +77,13 @@ returns-3 c =
     let at-if1 = at-append .before .before in
     let at-h = at-if1 .before .before .before .before in
     let at-ahead = at-h .before .before in
-    let at-slice-known = at-ahead .before .before .before in
-    let entry = at-slice-known .before in
+    let entry = at-ahead .before .before .before in
     let args = entry .args in
-    fresh-meets (args .plan) _ _ _ _ (args .sizes) (args .at) _ (args .g) _ (args .n) _ (waiting-room (args .plan) _ _) (λ k. omega (arith, at-slice-known .slice-known .given k)) (entry .pre .0) (at-plus .plus .ensures .1) (entry .pre .1 .0) (at-plus .plus .ensures .0) (at-if1 .if1 .left) (rw (at-h .h .given .1) at (at-ahead .ahead .ensures .0)) (at-push .push .ensures) (entry .pre .1 .1 .0) (record { high-word = omega (arith, (entry .good)); low-word = omega (arith, (entry .good)) }) (entry .pre .1 .1 .1 .1) (at-append .append .ensures .1)
+    let w = args .workspace .now in
+    let p = args .plan in
+    let z = args .sizes in
+    pushed-going p w (args .heap .now) z (appendIn w (p .known) (z .known) (args .n) (args .g) (args .at)) (z .known + 1) (args .n) (args .g) _ _ (rw (at-h .h .given .1) at (at-ahead .ahead .ensures .0)) _ _ _ (at-if1 .if1 .left) (at-plus .plus .ensures .0) (at-append .append .ensures) (at-push .push .ensures)
+    ∙ fresh-is p w (args .heap .now) z (args .at) (args .n) (args .g)
 
 pub fresh-spec : {M : Type 1} → statement M
 fresh-spec =
@@ -82,8 +96,8 @@ fresh-spec =
     append-requires
     plus-requires
     push-requires
-    add-t24
-    add-t25
+    add-t22
+    add-t23
     returns-2
     same-length
     same-length-2

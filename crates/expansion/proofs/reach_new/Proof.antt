@@ -1,8 +1,7 @@
--- Blocked, not shorter than no way, without room, or added: each is a case of the definition. Assumes nothing.
-use mathlib.Core.Path.{refl, sym, _∙_}
-use mathlib.Core.Option.{none}
-use native.Mathlib.Omega.{arith}
-use Rattle.expansion.specs.RelaxLaws.{infinity-cost, shut-meets, worse-meets, added-meets, crowded-meets}
+-- Blocked, not shorter than no way, without room, or added: each is a case of the byte step.
+use mathlib.Core.Path.{sym, _∙_}
+use Rattle.layer.specs.Layer.{rowsOf}
+use Rattle.expansion.specs.BytesLaws.{new-shut, new-worse, new-full, new-fresh}
 use borrow.Author.Needs.{needs}
 use Rattle.expansion.proofs.reach_new.Statement.{statement}
 use Rattle.expansion.proofs.reach_new.Tie as tie
@@ -12,23 +11,25 @@ is-shut-requires c κs = search needs
 
 returns : tie.Need-returns
 returns c =
-    let args = c .before .before .before .before .before .args in
-    let pre = c .before .before .before .before .before .pre in
-    shut-meets (args .plan) _ _ _ _ (args .sizes) (args .at) (args .t) (args .n) (pre .0) (record { high-word = omega (arith, c .before .before .before .before .before .good); low-word = omega (arith, c .before .before .before .before .before .good) }) none refl (sym (c .before .is-shut .ensures) ∙ c .if1 .taken)
-
-less-requires : tie.Need-less-requires
-less-requires c κs = (c .before .before .before .before .before .pre .1 .1 .0, infinity-cost)
+    let at-is-shut = c .before in
+    let entry = at-is-shut .before .before .before .before in
+    let args = entry .args in
+    sym (new-shut (args .plan) (rowsOf 20 (args .flags .now) (args .count)) (args .workspace .now) (args .heap .now) (args .sizes) (args .at) (args .n) (args .t) (sym (at-is-shut .is-shut .ensures) ∙ c .if1 .taken))
 
 returns-2 : tie.Need-returns-2
 returns-2 c =
-    let args = c .before .before .before .before .before .before .before .before .before .before .args in
-    let pre = c .before .before .before .before .before .before .before .before .before .before .pre in
-    crowded-meets (args .plan) _ _ _ _ (args .sizes) (args .at) (args .t) (args .n) (pre .0) (record { high-word = omega (arith, c .before .before .before .before .before .before .before .before .before .before .good); low-word = omega (arith, c .before .before .before .before .before .before .before .before .before .before .good) }) (sym (c .before .before .before .before .before .before .is-shut .ensures) ∙ c .before .before .before .before .before .if1 .left) (sym (c .before .before .before .before .less .ensures) ∙ c .before .before .before .if2 .taken) (c .if3 .taken)
+    let at-if2 = c .before .before .before in
+    let at-if1 = at-if2 .before in
+    let at-is-shut = at-if1 .before in
+    let entry = at-is-shut .before .before .before .before in
+    let args = entry .args in
+    sym (new-full (args .plan) (rowsOf 20 (args .flags .now) (args .count)) (args .workspace .now) (args .heap .now) (args .sizes) (args .at) (args .n) (args .t) (sym (at-is-shut .is-shut .ensures) ∙ at-if1 .if1 .left) (at-if2 .if2 .taken) (c .if3 .taken))
 
 fresh-requires : tie.Need-fresh-requires
 fresh-requires c κs =
-    let pre = c .before .before .before .before .before .before .before .before .before .before .before .before .pre in
-    (pre .0, (pre .1 .1 .0, (pre .1 .1 .1 .0, (c .before .before .if3 .left, pre .1 .1 .1 .1))))
+    let at-if3 = c .before .before in
+    let entry = at-if3 .before .before .before .before .before .before .before .before .before in
+    (entry .pre .0, (entry .pre .1 .1 .0, (entry .pre .1 .1 .1, at-if3 .if3 .left)))
 
 same-length : tie.Need-same-length
 same-length c = search needs
@@ -38,15 +39,23 @@ same-length-2 c = search needs
 
 returns-3 : tie.Need-returns-3
 returns-3 c =
-    let args = c .before .before .before .before .before .before .before .before .before .before .before .before .before .before .before .before .before .args in
-    let pre = c .before .before .before .before .before .before .before .before .before .before .before .before .before .before .before .before .before .pre in
-    added-meets (args .plan) _ _ _ _ (args .sizes) (args .at) (args .t) (args .n) (pre .0) (record { high-word = omega (arith, c .before .before .before .before .before .before .before .before .before .before .before .before .before .before .before .before .before .good); low-word = omega (arith, c .before .before .before .before .before .before .before .before .before .before .before .before .before .before .before .before .before .good) }) (sym (c .before .before .before .before .before .before .before .before .before .before .before .before .before .is-shut .ensures) ∙ c .before .before .before .before .before .before .before .before .before .before .before .before .if1 .left) (sym (c .before .before .before .before .before .before .before .before .before .before .before .less .ensures) ∙ c .before .before .before .before .before .before .before .before .before .before .if2 .taken) _ _ _ (c .before .before .before .before .before .before .before .if3 .left) (c .before .before .before .before .fresh .ensures)
+    let at-fresh = c .before .before .before .before in
+    let at-if3 = at-fresh .before .before .before in
+    let at-if2 = at-if3 .before .before .before in
+    let at-if1 = at-if2 .before in
+    let at-is-shut = at-if1 .before in
+    let entry = at-is-shut .before .before .before .before in
+    let args = entry .args in
+    at-fresh .fresh .ensures
+    ∙ sym (new-fresh (args .plan) (rowsOf 20 (args .flags .now) (args .count)) (args .workspace .now) (args .heap .now) (args .sizes) (args .at) (args .n) (args .t) (sym (at-is-shut .is-shut .ensures) ∙ at-if1 .if1 .left) (at-if2 .if2 .taken) (at-if3 .if3 .left))
 
 returns-4 : tie.Need-returns-4
 returns-4 c =
-    let args = c .before .before .before .before .before .before .before .args in
-    let pre = c .before .before .before .before .before .before .before .pre in
-    worse-meets (args .plan) _ _ _ _ (args .sizes) (args .at) (args .t) (args .n) (pre .0) (record { high-word = omega (arith, c .before .before .before .before .before .before .before .good); low-word = omega (arith, c .before .before .before .before .before .before .before .good) }) none (sym (c .before .less .ensures) ∙ c .if2 .left)
+    let at-if1 = c .before in
+    let at-is-shut = at-if1 .before in
+    let entry = at-is-shut .before .before .before .before in
+    let args = entry .args in
+    sym (new-worse (args .plan) (rowsOf 20 (args .flags .now) (args .count)) (args .workspace .now) (args .heap .now) (args .sizes) (args .at) (args .n) (args .t) (sym (at-is-shut .is-shut .ensures) ∙ at-if1 .if1 .left) (c .if2 .left))
 
 pub reach-new-spec : {M : Type 1} → statement M
 reach-new-spec =
@@ -54,7 +63,6 @@ reach-new-spec =
     (tie.spec
     is-shut-requires
     returns
-    less-requires
     returns-2
     fresh-requires
     same-length

@@ -1,15 +1,11 @@
--- The neighbour is looked for among the known cells, and tried with what is found. Assumes nothing.
-use mathlib.Core.Path.{subst}
-use native.Mathlib.Omega.{arith}
-use Rattle.known.specs.Laws.{cell-words}
-use Rattle.expansion.specs.State.{Meets}
-use Rattle.expansion.specs.RelaxLaws.{paid, relaxed}
+-- The neighbour is looked for among the known cells, and tried with what is found.
+use mathlib.Core.Path.{_∙_}
+use Rattle.layer.specs.Layer.{rowsOf}
+use Rattle.known.specs.Seek.{found-below}
+use Rattle.expansion.specs.BytesLaws.{relax-is}
 use borrow.Author.Needs.{needs}
 use Rattle.expansion.proofs.relax.Statement.{statement}
 use Rattle.expansion.proofs.relax.Tie as tie
-
-cell-at-requires : tie.Need-cell-at-requires
-cell-at-requires c κs = search needs
 
 cost-requires : tie.Need-cost-requires
 cost-requires c κs = search needs
@@ -25,18 +21,22 @@ enum-known-i c = search needs
 
 reach-known-requires : tie.Need-reach-known-requires
 reach-known-requires c κs =
-    let pre = c .before .before .before .before .before .before .before .before .before .before .before .before .before .before .pre in
-    let found = rw (c .before .before .before .i .given .1) at (c .before .before .before .before .before .look .ensures) in
-    (pre .0, (pre .1 .0, (c .before .before .before .before .before .before .before .plus .ensures .1, (pre .1 .1 .1, (found .0, found .1)))))
+    let at-i = c .before .before .before in
+    let at-look = at-i .before .before in
+    let at-plus = at-look .before .before in
+    let entry = at-plus .before .before .before .before .before in
+    let args = entry .args in
+    let below = found-below (args .workspace .now) (args .plan .known) (args .sizes .known) (args .n) _ _ (at-look .look .ensures) (at-i .i .given .1) in
+    (entry .pre .0, (entry .pre .1 .0, (at-plus .plus .ensures .1, (entry .pre .1 .1 .1, below))))
 
 enum-told : tie.Need-enum-told
 enum-told c = search needs
 
 reach-new-requires : tie.Need-reach-new-requires
 reach-new-requires c κs =
-    let pre = c .before .before .before .before .before .before .before .before .before .before .before .before .before .pre in
-    let found = rw (c .before .before .enum-told .given .1) at (c .before .before .before .before .look .ensures) in
-    (pre .0, (pre .1 .0, (c .before .before .before .before .before .before .plus .ensures .1, (pre .1 .1 .1, found .0))))
+    let at-plus = c .before .before .before .before .before .before in
+    let entry = at-plus .before .before .before .before .before in
+    (entry .pre .0, (entry .pre .1 .0, (at-plus .plus .ensures .1, entry .pre .1 .1 .1)))
 
 same-length : tie.Need-same-length
 same-length c = search needs
@@ -46,11 +46,15 @@ same-length-2 c = search needs
 
 returns : tie.Need-returns
 returns c =
-    let args = c .before .before .before .before .before .before .before .before .before .before .before .before .before .before .before .before .before .before .before .args in
-    let by =
-    paid _ (args .plan .known) (args .at) (args .g) _ _ (args .n) _ (record { high-word = omega (arith, c .before .before .before .before .before .before .before .before .before .before .before .before .before .before .before .before .before .before .before .good); low-word = omega (arith, c .before .before .before .before .before .before .before .before .before .before .before .before .before .before .before .before .before .before .before .good) }) (cell-words _ (args .plan .known) (args .at) (λ k. omega (arith, c .before .before .before .before .before .before .before .before .before .before .before .before .before .before .before .before .before .before .slice-known .given k)))
-    (c .before .before .before .before .before .before .before .before .before .before .before .before .plus .ensures .0) (c .before .before .before .before .before .before .before .before .before .before .before .before .before .cost .ensures .0) (c .before .before .before .before .before .before .before .before .before .before .before .before .before .before .cell-at .ensures) in
-    subst (Meets _ _ _ _ _ _ _) (relaxed (args .plan) _ _ _ _ (args .sizes) (args .at) (args .g) _ (args .n) by _ ((rw (c .before .before .before .before .before .before .before .before .i .given .1) at (c .before .before .before .before .before .before .before .before .before .before .look .ensures)) .2)) (c .before .before .before .before .reach-known .ensures)
+    let at-reach-known = c .before .before .before .before in
+    let at-i = at-reach-known .before .before .before .before in
+    let at-look = at-i .before .before in
+    let at-plus = at-look .before .before in
+    let at-cost = at-plus .before in
+    let entry = at-cost .before .before .before .before in
+    let args = entry .args in
+    at-reach-known .reach-known .ensures
+    ∙ relax-is (args .plan) (rowsOf 20 (args .flags .now) (args .count)) (args .workspace .now) (args .heap .now) (args .sizes) (args .at) (args .g) (args .n) _ _ (args .c) _ (at-cost .cost .ensures .0) (at-plus .plus .ensures .0) (rw (at-i .i .given .1) at (at-look .look .ensures))
 
 same-length-3 : tie.Need-same-length-3
 same-length-3 c = search needs
@@ -60,17 +64,20 @@ same-length-4 c = search needs
 
 returns-2 : tie.Need-returns-2
 returns-2 c =
-    let args = c .before .before .before .before .before .before .before .before .before .before .before .before .before .before .before .before .before .before .args in
-    let by =
-    paid _ (args .plan .known) (args .at) (args .g) _ _ (args .n) _ (record { high-word = omega (arith, c .before .before .before .before .before .before .before .before .before .before .before .before .before .before .before .before .before .before .good); low-word = omega (arith, c .before .before .before .before .before .before .before .before .before .before .before .before .before .before .before .before .before .before .good) }) (cell-words _ (args .plan .known) (args .at) (λ k. omega (arith, c .before .before .before .before .before .before .before .before .before .before .before .before .before .before .before .before .before .slice-known .given k)))
-    (c .before .before .before .before .before .before .before .before .before .before .before .plus .ensures .0) (c .before .before .before .before .before .before .before .before .before .before .before .before .cost .ensures .0) (c .before .before .before .before .before .before .before .before .before .before .before .before .before .cell-at .ensures) in
-    subst (Meets _ _ _ _ _ _ _) (relaxed (args .plan) _ _ _ _ (args .sizes) (args .at) (args .g) _ (args .n) by _ ((rw (c .before .before .before .before .before .before .before .enum-told .given .1) at (c .before .before .before .before .before .before .before .before .before .look .ensures)) .1)) (c .before .before .before .before .reach-new .ensures)
+    let at-reach-new = c .before .before .before .before in
+    let at-enum-told = at-reach-new .before .before .before in
+    let at-look = at-enum-told .before .before in
+    let at-plus = at-look .before .before in
+    let at-cost = at-plus .before in
+    let entry = at-cost .before .before .before .before in
+    let args = entry .args in
+    at-reach-new .reach-new .ensures
+    ∙ relax-is (args .plan) (rowsOf 20 (args .flags .now) (args .count)) (args .workspace .now) (args .heap .now) (args .sizes) (args .at) (args .g) (args .n) _ _ (args .c) _ (at-cost .cost .ensures .0) (at-plus .plus .ensures .0) (rw (at-enum-told .enum-told .given .1) at (at-look .look .ensures))
 
 pub relax-spec : {M : Type 1} → statement M
 relax-spec =
     tie.close
     (tie.spec
-    cell-at-requires
     cost-requires
     plus-requires
     look-requires

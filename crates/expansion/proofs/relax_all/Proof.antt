@@ -1,19 +1,17 @@
 -- The invariant: the first i neighbours were looked at.
-use mathlib.Core.Path.{refl, _∙_}
 use Prim.Native.Nat.{_-_}
-use native.Mathlib.Omega.{arith}
 use borrow.Author.Needs.{needs}
-use Rattle.expansion.specs.State.{problemOf}
-use Rattle.expansion.specs.AroundLaws.{Around, around-start, around-next, around-out, around-end}
+use Rattle.layer.specs.Layer.{rowsOf}
+use Rattle.expansion.specs.BytesLoops.{AroundIn, around-start, around-workspace, around-heap, around-next, around-stopped, around-arrived, around-end}
 use Rattle.expansion.proofs.relax_all.Statement.{statement}
 use Rattle.expansion.proofs.relax_all.Tie as tie
 
 abbrev Inv-loop : tie.InvT-loop
-Inv-loop workspace₀ heap₀ flags count plan at g cells size₀ i₀ workspace heap size i =
-    Around (problemOf plan flags count) plan at g cells workspace₀ heap₀ size₀ workspace heap size i
+Inv-loop workspace₀ heap₀ flags count plan at c g cells size₀ i₀ workspace heap size i =
+    AroundIn plan (rowsOf 20 flags count) at c g cells workspace₀ heap₀ size₀ workspace heap size i
 
 abbrev μ-loop : tie.MeasureT-loop
-μ-loop workspace₀ heap₀ flags count plan at g cells size₀ i₀ workspace heap size i = 14 - i
+μ-loop workspace₀ heap₀ flags count plan at c g cells size₀ i₀ workspace heap size i = 14 - i
 
 loop-holds : tie.Need-loop-holds Inv-loop μ-loop
 loop-holds c = around-start (search needs) ((c .before .before .before .pre) .0) ((c .before .before .before .pre) .1 .1 .1)
@@ -28,7 +26,7 @@ relax-requires : tie.Need-relax-requires Inv-loop μ-loop
 relax-requires c κs =
     let at-loop = c .before .before .before .before in
     let entry = at-loop .before .before .before .before in
-    (at-loop .loop .inv .good, (entry .pre .1 .0, (entry .pre .1 .1 .0, at-loop .loop .inv .below)))
+    (at-loop .loop .inv .fits, (entry .pre .1 .0, (entry .pre .1 .1 .0, at-loop .loop .inv .below)))
 
 enum-known-z : tie.Need-enum-known-z Inv-loop μ-loop
 enum-known-z c = search needs
@@ -39,14 +37,16 @@ enum-known-r c = search needs
 same-length : tie.Need-same-length Inv-loop μ-loop
 same-length c =
     let at-relax = c .before .before .before .before .before .before .before in
-    let at-loop = at-relax .before .before .before .before .before in
-    at-relax .relax .ensures .workspace-length ∙ at-loop .loop .inv .workspace-length
+    let at-loop-test = at-relax .before .before .before .before in
+    let at-loop = at-loop-test .before in
+    around-workspace (at-loop .loop .inv) (record { high = 0; low = 0 }) (at-loop-test .loop-test .taken) _ _ _ (at-relax .relax .ensures)
 
 same-length-2 : tie.Need-same-length-2 Inv-loop μ-loop
 same-length-2 c =
     let at-relax = c .before .before .before .before .before .before .before in
-    let at-loop = at-relax .before .before .before .before .before in
-    at-relax .relax .ensures .heap-length ∙ at-loop .loop .inv .heap-length
+    let at-loop-test = at-relax .before .before .before .before in
+    let at-loop = at-loop-test .before in
+    around-heap (at-loop .loop .inv) (record { high = 0; low = 0 }) (at-loop-test .loop-test .taken) _ _ _ (at-relax .relax .ensures)
 
 returns : tie.Need-returns Inv-loop μ-loop
 returns c =
@@ -54,7 +54,7 @@ returns c =
     let at-relax = at-r .before .before .before .before .before .before in
     let at-loop-test = at-relax .before .before .before .before in
     let at-loop = at-loop-test .before in
-    around-out (at-loop .loop .inv) (record { high = 0; low = 0 }) (at-loop-test .loop-test .taken) _ _ _ (rw (at-r .r .given .1) at (at-relax .relax .ensures)) _ refl
+    around-stopped (at-loop .loop .inv) (record { high = 0; low = 0 }) (at-loop-test .loop-test .taken) _ _ _ (rw (at-r .r .given .1) at (at-relax .relax .ensures))
 
 enum-known-z-2 : tie.Need-enum-known-z-2 Inv-loop μ-loop
 enum-known-z-2 c = search needs
@@ -62,14 +62,16 @@ enum-known-z-2 c = search needs
 same-length-3 : tie.Need-same-length-3 Inv-loop μ-loop
 same-length-3 c =
     let at-relax = c .before .before .before .before .before .before .before in
-    let at-loop = at-relax .before .before .before .before .before in
-    at-relax .relax .ensures .workspace-length ∙ at-loop .loop .inv .workspace-length
+    let at-loop-test = at-relax .before .before .before .before in
+    let at-loop = at-loop-test .before in
+    around-workspace (at-loop .loop .inv) (record { high = 0; low = 0 }) (at-loop-test .loop-test .taken) _ _ _ (at-relax .relax .ensures)
 
 same-length-4 : tie.Need-same-length-4 Inv-loop μ-loop
 same-length-4 c =
     let at-relax = c .before .before .before .before .before .before .before in
-    let at-loop = at-relax .before .before .before .before .before in
-    at-relax .relax .ensures .heap-length ∙ at-loop .loop .inv .heap-length
+    let at-loop-test = at-relax .before .before .before .before in
+    let at-loop = at-loop-test .before in
+    around-heap (at-loop .loop .inv) (record { high = 0; low = 0 }) (at-loop-test .loop-test .taken) _ _ _ (at-relax .relax .ensures)
 
 returns-2 : tie.Need-returns-2 Inv-loop μ-loop
 returns-2 c =
@@ -77,7 +79,7 @@ returns-2 c =
     let at-relax = at-z2 .before .before .before .before .before .before in
     let at-loop-test = at-relax .before .before .before .before in
     let at-loop = at-loop-test .before in
-    around-out (at-loop .loop .inv) (record { high = 0; low = 0 }) (at-loop-test .loop-test .taken) _ _ _ (rw (at-z2 .z2 .given .1) at (at-relax .relax .ensures)) _ refl
+    around-arrived (at-loop .loop .inv) (record { high = 0; low = 0 }) (at-loop-test .loop-test .taken) _ _ _ (rw (at-z2 .z2 .given .1) at (at-relax .relax .ensures))
 
 add-i : tie.Need-add-i Inv-loop μ-loop
 add-i c = search needs
@@ -100,7 +102,7 @@ same-length-6 : tie.Need-same-length-6 Inv-loop μ-loop
 same-length-6 c = (c .before .loop) .inv .heap-length
 
 returns-3 : tie.Need-returns-3 Inv-loop μ-loop
-returns-3 c = around-end ((c .before .loop) .inv) ((c .loop-test) .left)
+returns-3 c = around-end ((c .before .loop) .inv) (c .loop-test .left)
 
 pub relax-all-spec : {M : Type 1} → statement M
 relax-all-spec =

@@ -1,10 +1,7 @@
 -- An estimate that is refused, a heap that is full, or the row and the entry of a shorter way.
-use mathlib.Core.Path.{ap, _∙_}
-use native.Mathlib.Omega.{arith}
-use Rattle.refusal.specs.declared.Cell.{Cell}
-use Rattle.cell.specs.Cell.{distanceCells}
-use Rattle.search.specs.Plan.{distanceBits}
-use Rattle.expansion.specs.StateLaws.{waiting-room, refused-meets, full-meets, renew-meets}
+use mathlib.Core.Path.{_∙_}
+use Rattle.rows.specs.Rows.{lowerIn}
+use Rattle.expansion.specs.BytesLaws.{pushed-stopped, pushed-full, pushed-going, renew-is}
 use borrow.Author.Needs.{needs}
 use Rattle.expansion.proofs.renew.Statement.{statement}
 use Rattle.expansion.proofs.renew.Tie as tie
@@ -29,9 +26,13 @@ returns c =
     let at-h = c .before .before .before .before in
     let at-ahead = at-h .before .before in
     let at-cell-at = at-ahead .before in
-    let entry = at-cell-at .before .before .before .before .before in
+    let entry = at-cell-at .before .before .before .before in
     let args = entry .args in
-    full-meets (args .plan) _ _ (args .sizes) _ _ _ _ (waiting-room (args .plan) _ _) _ _ (rw (at-h .h .given .1) at (at-ahead .ahead .ensures .0) ∙ ap (λ (d : Cell). distanceBits (distanceCells d (args .plan .goal))) (at-cell-at .cell-at .ensures)) (c .if1 .taken)
+    let w = args .workspace .now in
+    let p = args .plan in
+    let z = args .sizes in
+    pushed-full p w (args .heap .now) z (lowerIn w (p .known) (args .i) (args .g) (args .at)) (z .known) _ (args .g) _ _ (rw (at-h .h .given .1) at (at-ahead .ahead .ensures .0)) (c .if1 .taken)
+    ∙ renew-is p w (args .heap .now) z (args .at) (args .i) (args .g) _ (at-cell-at .cell-at .ensures)
 
 lower-requires : tie.Need-lower-requires
 lower-requires c κs = search needs
@@ -40,17 +41,14 @@ plus-requires : tie.Need-plus-requires
 plus-requires c κs =
     let at-h = c .before .before .before .before .before .before .before .before in
     let at-ahead = at-h .before .before in
-    let entry = at-ahead .before .before .before .before .before .before in
+    let entry = at-ahead .before .before .before .before .before in
     (entry .pre .1 .0, rw (at-h .h .given .1) at (at-ahead .ahead .ensures .1))
 
 push-requires : tie.Need-push-requires
-push-requires c κs =
-    let at-if1 = c .before .before .before .before .before .before in
-    let entry = at-if1 .before .before .before .before .before .before .before .before .before .before .before .before in
-    (entry .pre .0 .heap, omega (arith, entry .pre .0 .size, at-if1 .if1 .left))
+push-requires c κs = search needs
 
-add-t27 : tie.Need-add-t27
-add-t27 c = search needs
+add-t25 : tie.Need-add-t25
+add-t25 c = search needs
 
 same-length-2 : tie.Need-same-length-2
 same-length-2 c = search needs
@@ -60,9 +58,13 @@ returns-2 c =
     let at-r = c .before in
     let at-ahead = at-r .before .before in
     let at-cell-at = at-ahead .before in
-    let entry = at-cell-at .before .before .before .before .before in
+    let entry = at-cell-at .before .before .before .before in
     let args = entry .args in
-    refused-meets (args .plan) _ _ (args .sizes) _ _ _ _ (waiting-room (args .plan) _ _) _ _ (rw (at-r .r .given .1) at (at-ahead .ahead .ensures .0) ∙ ap (λ (d : Cell). distanceBits (distanceCells d (args .plan .goal))) (at-cell-at .cell-at .ensures))
+    let w = args .workspace .now in
+    let p = args .plan in
+    let z = args .sizes in
+    pushed-stopped p w (args .heap .now) z (lowerIn w (p .known) (args .i) (args .g) (args .at)) (z .known) _ (args .g) _ _ (rw (at-r .r .given .1) at (at-ahead .ahead .ensures .0))
+    ∙ renew-is p w (args .heap .now) z (args .at) (args .i) (args .g) _ (at-cell-at .cell-at .ensures)
 
 same-length-3 : tie.Need-same-length-3
 same-length-3 c = search needs
@@ -79,10 +81,13 @@ returns-3 c =
     let at-h = at-if1 .before .before .before .before in
     let at-ahead = at-h .before .before in
     let at-cell-at = at-ahead .before in
-    let at-slice-known = at-cell-at .before .before .before .before in
-    let entry = at-slice-known .before in
+    let entry = at-cell-at .before .before .before .before in
     let args = entry .args in
-    renew-meets (args .plan) _ _ _ _ (args .sizes) (args .at) _ (args .g) _ _ _ (waiting-room (args .plan) _ _) (λ k. omega (arith, at-slice-known .slice-known .given k)) (entry .pre .0) (at-plus .plus .ensures .1) (entry .pre .1 .0) (at-plus .plus .ensures .0) (at-if1 .if1 .left) (rw (at-h .h .given .1) at (at-ahead .ahead .ensures .0)) (at-push .push .ensures) (args .i) (entry .pre .1 .1 .1 .0) (entry .pre .1 .1 .1 .1) (at-cell-at .cell-at .ensures) (at-lower .lower .ensures)
+    let w = args .workspace .now in
+    let p = args .plan in
+    let z = args .sizes in
+    pushed-going p w (args .heap .now) z (lowerIn w (p .known) (args .i) (args .g) (args .at)) (z .known) _ (args .g) _ _ (rw (at-h .h .given .1) at (at-ahead .ahead .ensures .0)) _ _ _ (at-if1 .if1 .left) (at-plus .plus .ensures .0) (at-lower .lower .ensures) (at-push .push .ensures)
+    ∙ renew-is p w (args .heap .now) z (args .at) (args .i) (args .g) _ (at-cell-at .cell-at .ensures)
 
 pub renew-spec : {M : Type 1} → statement M
 renew-spec =
@@ -97,7 +102,7 @@ renew-spec =
     lower-requires
     plus-requires
     push-requires
-    add-t27
+    add-t25
     same-length-2
     returns-2
     same-length-3

@@ -1,8 +1,11 @@
 -- Four stores, and what they leave.
-use native.Mathlib.Omega.{arith}
+use mathlib.Core.Path.{_≡_}
+use mathlib.Core.List.{List}
+use Prim.Native.Nat.{ℕ, _+_, _*_}
 use borrow.Author.Needs.{needs}
-use Rattle.cell.specs.Laws.{Words}
-use Rattle.known.proofs.Added.{added-by}
+use Rattle.refusal.specs.declared.Cell.{Cell}
+use Rattle.words.specs.Word.{little, stored}
+use Rattle.known.specs.Known.{bucketOf, recordPlace, headIn, addIn}
 use Rattle.known.proofs.add.Statement.{statement}
 use Rattle.known.proofs.add.Tie as tie
 
@@ -59,10 +62,11 @@ returns c =
     let high = low .before .before .before .before in
     let read = high .before .before in
     let called = read .before .before in
-    let start = called .before .before in
-    let args = start .args in
-    let words : Words (args .c) = record { high-word = omega (arith, start .good); low-word = omega (arith, start .good) } in
-    added-by (args .workspace .now) (args .room) (args .count) (args .c) (start .pre .0) (start .pre .1) words (called .bucket .ensures .0) (read .read32-little .ensures .0) (high .write64-little .ensures) (low .write64-little2 .ensures) (linked .write32-little .ensures) (last .write32-little2 .ensures)
+    let args = called .before .before .args in
+    stores (args .workspace .now) (args .room) (args .count) (args .c) (called .bucket .ensures .0) (read .read32-little .ensures .0) (high .write64-little .ensures) (low .write64-little2 .ensures) (linked .write32-little .ensures) (last .write32-little2 .ensures)
+  where
+    stores : (l : List ℕ) (room n : ℕ) (c : Cell) {l₁ l₂ l₃ l₄ : List ℕ} {b last : ℕ} → b ≡ bucketOf c room → last ≡ headIn l b → l₁ ≡ stored little 8 l (recordPlace room n) (c .high) → l₂ ≡ stored little 8 l₁ (recordPlace room n + 8) (c .low) → l₃ ≡ stored little 4 l₂ (recordPlace room n + 16) last → l₄ ≡ stored little 4 l₃ (4 * b) (n + 1) → l₄ ≡ addIn l room n c
+    stores l room n c bucket head high low link new = cc
 
 pub add-spec : {M : Type 1} → statement M
 add-spec =

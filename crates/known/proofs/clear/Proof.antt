@@ -5,7 +5,6 @@ use Prim.Native.Nat.{ℕ, _*_}
 use native.Mathlib.Nat.{sub-zero}
 use borrow.Author.Needs.{needs}
 use lib.ListN.{drop, replicate}
-use Rattle.known.proofs.Emptied.{emptied}
 use Rattle.known.proofs.clear.Statement.{statement}
 use Rattle.known.proofs.clear.Tie as tie
 
@@ -20,9 +19,8 @@ same-length c = search needs
 
 returns : tie.Need-returns
 returns c =
-    let start = c .before .before .before .before .before in
-    let args = start .args in
-    emptied (args .workspace .now) _ (args .room) (start .pre) (c .before .before .zero .ensures ∙ ap (λ (k : ℕ). replicate {A = ℕ} k 0 ++ drop (4 * args .room) (args .workspace .now)) (sub-zero (4 * args .room)))
+    let args = c .before .before .before .before .before .args in
+    c .before .before .zero .ensures ∙ ap (λ (k : ℕ). replicate {A = ℕ} k 0 ++ drop (4 * args .room) (args .workspace .now)) (sub-zero (4 * args .room))
 
 pub clear-spec : {M : Type 1} → statement M
 clear-spec = tie.close (tie.spec mul-zero zero-requires same-length returns)

@@ -1,17 +1,20 @@
--- The walk along the cell's chain has passed no record with the cell, and what is left of the chain becomes less with each link.
-use Prim.Native.Nat.{_-_}
+-- What is left to seek leads to the same answer, and the bound falls with each link.
+use mathlib.Core.Path.{_≡_, sym, ap, _∙_}
+use Prim.Native.Nat.{ℕ, suc, _-_, _≤_, _<_}
 use borrow.Author.Needs.{needs}
 use native.Mathlib.Omega.{arith}
-use Rattle.cell.specs.Laws.{Words}
-use Rattle.known.proofs.Walked.{Walked, walked-none, walked-more, link-less, tested-same, tested-other}
+use Rattle.refusal.specs.declared.Cell.{Cell}
+use Rattle.cell.specs.Cell.{sameCell}
+use Rattle.known.specs.Known.{bucketOf, headIn}
+use Rattle.known.specs.Seek.{seekIn, findIn, seek-none, seek-found, seek-next}
 use Rattle.known.proofs.find.Statement.{statement}
 use Rattle.known.proofs.find.Tie as tie
 
 abbrev Inv-loop : tie.InvT-loop
-Inv-loop workspace room count c link₀ link = Walked workspace room count c link
+Inv-loop workspace room count c link₀ bound₀ link bound = (bound ≤ count) × ((m : ℕ) × (bound < m) × (findIn workspace room count c ≡ seekIn m workspace room c bound link))
 
 abbrev μ-loop : tie.MeasureT-loop
-μ-loop workspace room count c link₀ link = link
+μ-loop workspace room count c link₀ bound₀ link bound = bound
 
 bucket-requires : tie.Need-bucket-requires Inv-loop μ-loop
 bucket-requires c κs = search needs
@@ -26,13 +29,21 @@ cast-link : tie.Need-cast-link Inv-loop μ-loop
 cast-link c = search needs
 
 loop-holds : tie.Need-loop-holds Inv-loop μ-loop
+unfolding findIn
 loop-holds c =
-    let start = c .before .before .before in
-    let args = start .args in
-    walked-none (args .workspace .now) (args .room) (args .count) (args .c) (start .pre) (c .before .bucket .result) (c .read32-little .result) (c .before .bucket .ensures .0) (c .read32-little .ensures .0)
+    let args = c .before .before .before .args in
+    let head : headIn (args .workspace .now) (bucketOf (args .c) (args .room)) ≡ c .read32-little .result = ap (headIn (args .workspace .now)) (sym (c .before .bucket .ensures .0)) ∙ sym (c .read32-little .ensures .0) in
+    (omega arith, (suc (args .count), omega arith, ap (seekIn (suc (args .count)) (args .workspace .now) (args .room) (args .c) (args .count)) head))
 
-sub-i : tie.Need-sub-i Inv-loop μ-loop
-sub-i c = search needs
+wrapping-sub-usize-requires : tie.Need-wrapping-sub-usize-requires Inv-loop μ-loop
+wrapping-sub-usize-requires c κs = search needs
+
+returns : tie.Need-returns Inv-loop μ-loop
+returns c =
+    let args = c .before .before .before .before .before .before .args in
+    let here = c .before .before .loop in
+    let left = here .inv .1 in
+    sym (left .2 ∙ seek-none (args .workspace .now) (args .room) (args .c) (here .bound) (here .link) (left .0) (λ some under. omega (arith, c .if1 .taken, c .before .wrapping-sub-usize .ensures)))
 
 cell-at-requires : tie.Need-cell-at-requires Inv-loop μ-loop
 cell-at-requires c κs = search needs
@@ -40,13 +51,13 @@ cell-at-requires c κs = search needs
 same-requires : tie.Need-same-requires Inv-loop μ-loop
 same-requires c κs = search needs
 
-returns : tie.Need-returns Inv-loop μ-loop
-returns c =
-    let start = c .before .before .before .before .before .before .before in
-    let args = start .before .args in
-    let here = c .before .before .before .before .loop in
-    let words : Words (args .c) = record { high-word = omega arith; low-word = omega arith } in
-    (omega arith, tested-same (args .workspace .now) (args .room) (here .link - 1) (args .c) (λ i. omega (arith, start .shared-slice-known .given i)) words (c .before .before .cell-at .ensures) (c .before .same .ensures) (c .if1 .taken))
+returns-2 : tie.Need-returns-2 Inv-loop μ-loop
+returns-2 c =
+    let args = c .before .before .before .before .before .before .before .before .before .args in
+    let here = c .before .before .before .before .before .loop in
+    let left = here .inv .1 in
+    let same = ap (λ (d : Cell). sameCell d (args .c)) (sym (c .before .before .cell-at .ensures)) ∙ sym (c .before .same .ensures) ∙ c .if2 .taken in
+    sym (left .2 ∙ seek-found (args .workspace .now) (args .room) (args .c) (here .bound) (here .link) (left .0) _ (left .1) (omega arith) (c .before .before .before .if1 .left) same)
 
 mul-read32-little-2 : tie.Need-mul-read32-little-2 Inv-loop μ-loop
 mul-read32-little-2 c = search needs
@@ -67,22 +78,22 @@ cast-link-2 : tie.Need-cast-link-2 Inv-loop μ-loop
 cast-link-2 c = search needs
 
 loop-less : tie.Need-loop-less Inv-loop μ-loop
-loop-less c =
-    let start = c .before .before .before .before .before .before .before .before .before in
-    let args = start .args in
-    let here = c .before .before .before .before .before .loop in
-    link-less (args .workspace .now) (args .room) (args .count) (args .c) (start .pre) (here .link) (c .read32-little2 .result) (here .inv) (omega arith) (c .read32-little2 .ensures .0)
+loop-less c = omega arith
 
 loop-again : tie.Need-loop-again Inv-loop μ-loop
 loop-again c =
-    let start = c .before .before .before .before .before .before .before .before .before in
-    let args = start .args in
-    let here = c .before .before .before .before .before .loop in
-    walked-more (args .workspace .now) (args .room) (args .count) (args .c) (start .pre) (here .link) (c .read32-little2 .result) (here .inv) (omega arith) (c .read32-little2 .ensures .0)
-    (tested-other (args .workspace .now) (args .room) (here .link - 1) (args .c) (c .before .before .before .cell-at .ensures) (c .before .before .same .ensures) (c .before .if1 .left))
-
-returns-2 : tie.Need-returns-2 Inv-loop μ-loop
-returns-2 c = λ j below. c .before .loop .inv .passed j (omega arith) below
+    let args = c .before .before .before .before .before .before .before .before .before .before .args in
+    let here = c .before .before .before .before .before .before .loop in
+    let left = here .inv .1 in
+    let other = ap (λ (d : Cell). sameCell d (args .c)) (sym (c .before .before .before .cell-at .ensures)) ∙ sym (c .before .before .same .ensures) ∙ c .before .if2 .left in (
+      omega (arith, here .inv .0),
+      (
+        left .0 - 1,
+        omega (arith, left .1),
+        left .2 ∙ seek-next (args .workspace .now) (args .room) (args .c) (here .bound) (here .link) (left .0) _ (left .1) (omega arith) (c .before .before .before .before .if1 .left) other
+            ∙ ap (seekIn (left .0 - 1) (args .workspace .now) (args .room) (args .c) _) (sym (c .read32-little2 .ensures .0)),
+      ),
+    )
 
 pub find-spec : {M : Type 1} → statement M
 find-spec =
@@ -95,10 +106,11 @@ find-spec =
     read32-little-requires
     cast-link
     loop-holds
-    sub-i
+    wrapping-sub-usize-requires
+    returns
     cell-at-requires
     same-requires
-    returns
+    returns-2
     mul-read32-little-2
     mul-read32-little-3
     add-read32-little
@@ -106,5 +118,4 @@ find-spec =
     read32-little-requires-2
     cast-link-2
     loop-less
-    loop-again
-    returns-2)
+    loop-again)

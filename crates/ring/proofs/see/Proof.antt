@@ -3,7 +3,10 @@ use mathlib.Core.Path.{subst}
 use native.Mathlib.Omega.{arith}
 use borrow.Author.Needs.{needs}
 use Rattle.cell.specs.Laws.{Words}
+use Rattle.words.specs.Word.{Bytes}
 use Rattle.known.specs.Found.{Right}
+use Rattle.known.proofs.Sought.{found-by}
+use Rattle.known.proofs.Added.{added-by}
 use Rattle.ring.proofs.Seen.{seen-known, no-known-room, no-waiting-room, seen-new}
 use Rattle.ring.proofs.see.Statement.{statement}
 use Rattle.ring.proofs.see.Tie as tie
@@ -24,8 +27,9 @@ returns : tie.Need-returns
 returns c =
     let start = c .before .before .before .before .before .before .before in
     let args = start .args in
+    let bytes : Bytes (args .workspace .now) = (λ i. omega (arith, c .before .before .before .before .before .before .slice-known .given i)) in
     let words : Words (args .c) = record { high-word = omega (arith, start .good); low-word = omega (arith, start .good) } in
-    no-known-room (args .rooms) (args .next) (args .count) (args .workspace .now) (args .c) (start .pre .0) (λ i. omega (arith, c .before .before .before .before .before .before .slice-known .given i)) words (subst (Right (args .workspace .now) (args .rooms .known) (args .count) (args .c)) (c .before .before .enum-told2 .given .1) (c .before .before .before .before .find .ensures)) (omega arith)
+    no-known-room (args .rooms) (args .next) (args .count) (args .workspace .now) (args .c) (start .pre .0) bytes words (subst (Right (args .workspace .now) (args .rooms .known) (args .count) (args .c)) (c .before .before .enum-told2 .given .1) (found-by (args .workspace .now) (args .rooms .known) (args .count) (args .c) (start .pre .0) bytes words _ (c .before .before .before .before .find .ensures))) (omega arith)
 
 sub-if2 : tie.Need-sub-if2
 sub-if2 c = search needs
@@ -37,8 +41,9 @@ returns-2 : tie.Need-returns-2
 returns-2 c =
     let start = c .before .before .before .before .before .before .before .before .before in
     let args = start .args in
+    let bytes : Bytes (args .workspace .now) = (λ i. omega (arith, c .before .before .before .before .before .before .before .before .slice-known .given i)) in
     let words : Words (args .c) = record { high-word = omega (arith, start .good); low-word = omega (arith, start .good) } in
-    no-waiting-room (args .rooms) (args .next) (args .count) (args .workspace .now) (args .c) (start .pre .0) (λ i. omega (arith, c .before .before .before .before .before .before .before .before .slice-known .given i)) words (subst (Right (args .workspace .now) (args .rooms .known) (args .count) (args .c)) (c .before .before .before .before .enum-told2 .given .1) (c .before .before .before .before .before .before .find .ensures)) (omega arith) (omega arith)
+    no-waiting-room (args .rooms) (args .next) (args .count) (args .workspace .now) (args .c) (start .pre .0) bytes words (subst (Right (args .workspace .now) (args .rooms .known) (args .count) (args .c)) (c .before .before .before .before .enum-told2 .given .1) (found-by (args .workspace .now) (args .rooms .known) (args .count) (args .c) (start .pre .0) bytes words _ (c .before .before .before .before .before .before .find .ensures))) (omega arith) (omega arith)
 
 add-requires : tie.Need-add-requires
 add-requires c κs = search needs
@@ -53,7 +58,9 @@ returns-3 : tie.Need-returns-3
 returns-3 c =
     let start = c .before .before .before .before .before in
     let args = start .args in
-    seen-known (args .rooms) (args .next) (args .count) (args .workspace .now) (args .c) (start .pre .0) _ (subst (Right (args .workspace .now) (args .rooms .known) (args .count) (args .c)) (c .enum-told .given .1) (c .before .before .find .ensures))
+    let bytes : Bytes (args .workspace .now) = (λ i. omega (arith, c .before .before .before .before .slice-known .given i)) in
+    let words : Words (args .c) = record { high-word = omega (arith, start .good); low-word = omega (arith, start .good) } in
+    seen-known (args .rooms) (args .next) (args .count) (args .workspace .now) (args .c) (start .pre .0) _ (subst (Right (args .workspace .now) (args .rooms .known) (args .count) (args .c)) (c .enum-told .given .1) (found-by (args .workspace .now) (args .rooms .known) (args .count) (args .c) (start .pre .0) bytes words _ (c .before .before .find .ensures)))
 
 same-length-4 : tie.Need-same-length-4
 same-length-4 c = search needs
@@ -62,8 +69,9 @@ returns-4 : tie.Need-returns-4
 returns-4 c =
     let start = c .before .before .before .before .before .before .before .before .before .before .before .before .before in
     let args = start .args in
+    let bytes : Bytes (args .workspace .now) = (λ i. omega (arith, c .before .before .before .before .before .before .before .before .before .before .before .before .slice-known .given i)) in
     let words : Words (args .c) = record { high-word = omega (arith, start .good); low-word = omega (arith, start .good) } in
-    seen-new (args .rooms) (args .next) (args .count) (args .workspace .now) (args .c) (start .pre .0) (λ i. omega (arith, c .before .before .before .before .before .before .before .before .before .before .before .before .slice-known .given i)) words (subst (Right (args .workspace .now) (args .rooms .known) (args .count) (args .c)) (c .before .before .before .before .before .before .before .before .enum-told2 .given .1) (c .before .before .before .before .before .before .before .before .before .before .find .ensures)) (omega arith) (omega arith) (c .before .before .add .ensures)
+    seen-new (args .rooms) (args .next) (args .count) (args .workspace .now) (args .c) (start .pre .0) bytes words (subst (Right (args .workspace .now) (args .rooms .known) (args .count) (args .c)) (c .before .before .before .before .before .before .before .before .enum-told2 .given .1) (found-by (args .workspace .now) (args .rooms .known) (args .count) (args .c) (start .pre .0) bytes words _ (c .before .before .before .before .before .before .before .before .before .before .find .ensures))) (omega arith) (omega arith) (added-by (args .workspace .now) (args .rooms .known) (args .count) (args .c) (start .pre .0) (omega arith) words _ (c .before .before .add .ensures))
 
 pub see-spec : {M : Type 1} → statement M
 see-spec =

@@ -1,5 +1,9 @@
 -- From the one known cell to the last cells, which are listed.
+use native.Mathlib.Omega.{arith}
 use borrow.Author.Needs.{needs}
+use Rattle.cell.specs.Laws.{Words}
+use Rattle.known.proofs.Emptied.{emptied-by}
+use Rattle.known.proofs.Added.{added-by}
 use Rattle.ring.proofs.Started.{walked-stopped, walked-last, walked-all}
 use Rattle.ring.proofs.walk.Statement.{statement}
 use Rattle.ring.proofs.walk.Tie as tie
@@ -11,7 +15,15 @@ add-requires : tie.Need-add-requires
 add-requires c κs = search needs
 
 levels-requires : tie.Need-levels-requires
-levels-requires c κs = search needs
+levels-requires c κs =
+    let added = c .before .before .before in
+    let emptied = added .before .before .before .before in
+    let start = emptied .before .before .before .before in
+    let args = start .args in
+    let words : Words (args .c) = record { high-word = omega (arith, start .good); low-word = omega (arith, start .good) } in
+    let none = emptied-by (args .workspace .now) _ (args .rooms .known) (start .pre .0) (emptied .clear .ensures) in
+    let one = added-by _ (args .rooms .known) 0 (args .c) (none .known) (start .pre .0 .least) words _ (added .add .ensures) in
+    one .known
 
 enum-known-r : tie.Need-enum-known-r
 enum-known-r c = search needs
@@ -27,7 +39,10 @@ finish-requires c κs =
     let emptied = added .before .before .before .before in
     let start = emptied .before .before .before .before in
     let args = start .args in
-    let last = walked-last (args .every) (args .rooms) (args .k) (args .c) (args .workspace .now) _ _ (emptied .clear .ensures) (added .add .ensures) _ (levels .levels .result) (levels .levels .ensures) _ (told .last .given .1) in
+    let words : Words (args .c) = record { high-word = omega (arith, start .good); low-word = omega (arith, start .good) } in
+    let none = emptied-by (args .workspace .now) _ (args .rooms .known) (start .pre .0) (emptied .clear .ensures) in
+    let one = added-by _ (args .rooms .known) 0 (args .c) (none .known) (start .pre .0 .least) words _ (added .add .ensures) in
+    let last = walked-last (args .every) (args .rooms) (args .k) (args .c) (args .workspace .now) _ _ none one _ (levels .levels .result) (levels .levels .ensures) _ (told .last .given .1) in
     (last .known, (last .ordered, (last .listed, start .pre .1)))
 
 same-length : tie.Need-same-length
@@ -40,7 +55,10 @@ returns c =
     let emptied = added .before .before .before .before in
     let start = emptied .before .before .before .before in
     let args = start .args in
-    walked-stopped (args .every) (args .rooms) (args .k) (args .c) (args .workspace .now) _ _ (emptied .clear .ensures) (added .add .ensures) _ (levels .levels .result) (levels .levels .ensures) _ (args .output .now) (c .before .r .given .1)
+    let words : Words (args .c) = record { high-word = omega (arith, start .good); low-word = omega (arith, start .good) } in
+    let none = emptied-by (args .workspace .now) _ (args .rooms .known) (start .pre .0) (emptied .clear .ensures) in
+    let one = added-by _ (args .rooms .known) 0 (args .c) (none .known) (start .pre .0 .least) words _ (added .add .ensures) in
+    walked-stopped (args .every) (args .rooms) (args .k) (args .c) (args .workspace .now) _ _ none one _ (levels .levels .result) (levels .levels .ensures) _ (args .output .now) (c .before .r .given .1)
 
 same-length-2 : tie.Need-same-length-2
 same-length-2 c = search needs
@@ -56,7 +74,10 @@ returns-2 c =
     let emptied = added .before .before .before .before in
     let start = emptied .before .before .before .before in
     let args = start .args in
-    walked-all (args .every) (args .rooms) (args .k) (args .c) (args .workspace .now) _ _ (emptied .clear .ensures) (added .add .ensures) _ (levels .levels .result) (levels .levels .ensures) _ (args .output .now) (told .last .given .1) (c .before .before .finish .ensures)
+    let words : Words (args .c) = record { high-word = omega (arith, start .good); low-word = omega (arith, start .good) } in
+    let none = emptied-by (args .workspace .now) _ (args .rooms .known) (start .pre .0) (emptied .clear .ensures) in
+    let one = added-by _ (args .rooms .known) 0 (args .c) (none .known) (start .pre .0 .least) words _ (added .add .ensures) in
+    walked-all (args .every) (args .rooms) (args .k) (args .c) (args .workspace .now) _ _ none one _ (levels .levels .result) (levels .levels .ensures) _ (args .output .now) (told .last .given .1) (c .before .before .finish .ensures)
 
 pub walk-spec : {M : Type 1} → statement M
 walk-spec =

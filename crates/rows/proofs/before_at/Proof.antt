@@ -1,5 +1,4 @@
--- The word that was read is a row's number, since each way back leads to a row.
-use native.Mathlib.Omega.{arith}
+-- The word that was read.
 use borrow.Author.Needs.{needs}
 use Rattle.rows.proofs.before_at.Statement.{statement}
 use Rattle.rows.proofs.before_at.Tie as tie
@@ -23,9 +22,7 @@ cast-result : tie.Need-cast-result
 cast-result c = search needs
 
 returns : tie.Need-returns
-returns c =
-    let start = c .before .before in
-    (c .read32-little .ensures .0, omega (arith, c .read32-little .ensures .0, start .pre .0 .back (start .args .i) (start .pre .1)))
+returns c = c .read32-little .ensures .0
 
 pub before-at-spec : {M : Type 1} → statement M
 before-at-spec =

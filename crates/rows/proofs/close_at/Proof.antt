@@ -1,7 +1,5 @@
--- One store, and what it leaves.
-use native.Mathlib.Omega.{arith}
+-- One store.
 use borrow.Author.Needs.{needs}
-use Rattle.rows.proofs.Written.{marked-by, closed}
 use Rattle.rows.proofs.close_at.Statement.{statement}
 use Rattle.rows.proofs.close_at.Tie as tie
 
@@ -24,14 +22,7 @@ same-length : tie.Need-same-length
 same-length c = search needs
 
 returns : tie.Need-returns
-returns c =
-    let wrote = c .before .before in
-    let lent = wrote .before .before in
-    let start = lent .before in
-    let args = start .args in
-    let most = start .pre .0 .known .count in
-    closed (args .workspace .now) _ (args .room) (args .count) (args .i) (start .pre .0) (λ k. omega (arith, lent .slice-known .given k)) (start .pre .1)
-    (marked-by (args .workspace .now) (args .room) (args .i) (start .pre .0 .known .roomy) (omega arith) (wrote .write32-little .ensures))
+returns c = c .before .before .write32-little .ensures
 
 pub close-at-spec : {M : Type 1} → statement M
 close-at-spec =

@@ -1,6 +1,5 @@
--- The word that was read is the row's.
+-- The word that was read.
 use borrow.Author.Needs.{needs}
-use Rattle.rows.specs.Rows.{rowIn}
 use Rattle.rows.proofs.g_at.Statement.{statement}
 use Rattle.rows.proofs.g_at.Tie as tie
 
@@ -20,7 +19,6 @@ read64-little-requires : tie.Need-read64-little-requires
 read64-little-requires c κs = search needs
 
 returns : tie.Need-returns
-unfolding rowIn
 returns c = c .read64-little .ensures
 
 pub g-at-spec : {M : Type 1} → statement M

@@ -1,6 +1,5 @@
 -- Word by word.
 use borrow.Author.Needs.{needs}
-use native.Mathlib.Omega.{arith}
 use Rattle.waiting.proofs.Stored.{copied}
 use Rattle.waiting.proofs.copy.Statement.{statement}
 use Rattle.waiting.proofs.copy.Tie as tie
@@ -63,7 +62,7 @@ returns c =
     let second = third .before .before .before .before .before .before in
     let first = second .before .before .before .before .before .before in
     let args = first .before .before .before .before .before .args in
-    copied _ _ _ _ _ (args .from) (args .to) _ _ _ _ (omega arith) (search needs)
+    copied _ _ _ _ _ (args .from) (args .to) _ _ _ _
     (first .before .before .read64-little .ensures) (first .write64-little .ensures)
     (second .before .before .read64-little2 .ensures) (second .write64-little2 .ensures)
     (third .before .before .read64-little3 .ensures) (third .write64-little3 .ensures)

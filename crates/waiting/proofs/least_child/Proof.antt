@@ -1,17 +1,18 @@
 -- Four children are compared at once; of fewer, the first j are compared.
-use mathlib.Core.Path.{sym, subst, _∙_}
+use mathlib.Core.Path.{_≡_, sym, ap, _∙_}
 use mathlib.Core.Logic.{⊎-elim}
-use Prim.Native.Nat.{_+_, _-_, _*_, _≤_}
-use borrow.Author.Tests.{ltb-true, ltb-false}
+use Prim.Native.Nat.{ℕ, suc, _+_, _-_, _*_, _≤_, _<_}
+use lib.Dec.{ltb}
 use borrow.Author.Needs.{needs}
 use native.Mathlib.Omega.{arith}
 use Rattle.waiting.specs.Entries.{keyIn}
-use Rattle.waiting.proofs.Least.{four-children, LeastOf, least-of-one, next-is-less, next-is-more, few-children}
+use Rattle.waiting.specs.Sift.{firstLeast}
+use Rattle.waiting.proofs.Least.{one-alone, least-to, next-is-less, next-is-more, four-children, few-children}
 use Rattle.waiting.proofs.least_child.Statement.{statement}
 use Rattle.waiting.proofs.least_child.Tie as tie
 
 abbrev Inv-loop : tie.InvT-loop
-Inv-loop heap size i first least₀ j₀ least j = LeastOf (keyIn heap) first j least × (j ≤ size)
+Inv-loop heap size i first least₀ j₀ least j = (least ≡ firstLeast (keyIn heap) first (j - (first + 1))) × (first < j) × (j ≤ size)
 
 abbrev μ-loop : tie.MeasureT-loop
 μ-loop heap size i first least₀ j₀ least j = size - j
@@ -31,16 +32,23 @@ least-of-four-requires c κs = search needs
 returns : tie.Need-returns Inv-loop μ-loop
 returns c =
     let args = c .before .before .before .args in
-    four-children (keyIn (args .heap .now)) (args .size) (args .i) (c .least-of-four .result) (c .before .if1 .taken) (c .least-of-four .ensures)
+    c .least-of-four .ensures ∙ sym (four-children (args .heap .now) (args .size) (args .i) (omega arith))
 
 add-j : tie.Need-add-j Inv-loop μ-loop
 add-j c = search needs
 
 loop-holds : tie.Need-loop-holds Inv-loop μ-loop
-loop-holds c = let args = c .before .before .args in (least-of-one (keyIn (args .heap .now)) (4 * args .i + 1), omega arith)
+loop-holds c =
+    let args = c .before .before .args in
+    let none : 4 * args .i + 1 + 1 - (4 * args .i + 1 + 1) ≡ 0 = omega arith in
+    (sym (ap (firstLeast (keyIn (args .heap .now)) (4 * args .i + 1)) none ∙ one-alone (keyIn (args .heap .now)) (4 * args .i + 1)), omega arith, omega arith)
 
 less-at-requires : tie.Need-less-at-requires Inv-loop μ-loop
-less-at-requires c κs = (omega arith, omega (arith, c .before .loop .inv .0 .to))
+less-at-requires c κs =
+    let args = c .before .before .before .before .args in
+    let here = c .before .loop in
+    let last = least-to (keyIn (args .heap .now)) (4 * args .i + 1) (here .j - (4 * args .i + 1 + 1)) in
+    (omega arith, omega (arith, here .inv .0, here .inv .1))
 
 add-j-2 : tie.Need-add-j-2 Inv-loop μ-loop
 add-j-2 c = search needs
@@ -54,17 +62,22 @@ loop-again c =
     let here = c .before .before .before .loop in
     let key = keyIn (args .heap .now) in
     let first = 4 * args .i + 1 in
-    let test = c .before .less-at .ensures in
+    let n = here .j - (first + 1) in
+    let inner = here .inv .1 in
+    let at : here .j ≡ first + suc n = omega (arith, inner) in
+    let more : here .j + 1 - (first + 1) ≡ suc n = omega (arith, inner) in
+    let test = ap (λ (x : ℕ). ltb (key (here .j)) (key x)) (sym (here .inv .0)) ∙ sym (c .before .less-at .ensures) in
     ⊎-elim
-    (λ v. (subst (LeastOf key first (here .j + 1)) (sym (v .1)) (next-is-less key first (here .j) (here .least) (here .inv .0) (ltb-true _ _ (sym test ∙ v .0 .taken))), omega arith))
-    (λ v. (subst (LeastOf key first (here .j + 1)) (sym (v .1)) (next-is-more key first (here .j) (here .least) (here .inv .0) (ltb-false _ _ (sym test ∙ v .0 .left))), omega arith))
+    (λ v. (v .1 ∙ sym (ap (firstLeast key first) more ∙ next-is-less key first n (here .j) at (test ∙ v .0 .taken)), omega (arith, inner), omega arith))
+    (λ v. (v .1 ∙ here .inv .0 ∙ sym (ap (firstLeast key first) more ∙ next-is-more key first n (here .j) at (test ∙ v .0 .left)), omega (arith, inner), omega arith))
     (c .if2 .came)
 
 returns-2 : tie.Need-returns-2 Inv-loop μ-loop
 returns-2 c =
     let args = c .before .before .before .before .args in
     let here = c .before .loop in
-    few-children (keyIn (args .heap .now)) (args .size) (args .i) (here .j) (here .least) (here .inv .0) (c .loop-test .left) (here .inv .1) (omega arith)
+    let all : here .j - (4 * args .i + 1 + 1) ≡ args .size - (4 * args .i + 2) = omega (arith, here .inv .2) in
+    here .inv .0 ∙ ap (firstLeast (keyIn (args .heap .now)) (4 * args .i + 1)) all ∙ sym (few-children (args .heap .now) (args .size) (args .i) (omega arith))
 
 pub least-child-spec : {M : Type 1} → statement M
 least-child-spec =

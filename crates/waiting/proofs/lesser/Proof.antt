@@ -2,7 +2,7 @@
 use borrow.Author.Needs.{needs}
 use native.Mathlib.Omega.{arith}
 use Rattle.waiting.specs.Entries.{keyIn}
-use Rattle.waiting.proofs.Least.{lesser-of-two}
+use Rattle.waiting.proofs.Least.{lesser-of-two, least-to}
 use Rattle.waiting.proofs.lesser.Statement.{statement}
 use Rattle.waiting.proofs.lesser.Tie as tie
 
@@ -16,7 +16,11 @@ cast-result : tie.Need-cast-result
 cast-result c = search needs
 
 add-result : tie.Need-add-result
-add-result c = let two = lesser-of-two (keyIn (c .before .before .args .heap .now)) (c .before .before .args .a) (c .less-at .result) (c .less-at .ensures) in omega (arith, two .to)
+add-result c =
+    let args = c .before .before .args in
+    let two = lesser-of-two (keyIn (args .heap .now)) (args .a) (c .less-at .result) (c .less-at .ensures) in
+    let last = least-to (keyIn (args .heap .now)) (args .a) 1 in
+    omega arith
 
 returns : tie.Need-returns
 returns c = lesser-of-two (keyIn (c .before .before .args .heap .now)) (c .before .before .args .a) (c .less-at .result) (c .less-at .ensures)

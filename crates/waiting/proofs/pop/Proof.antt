@@ -1,11 +1,15 @@
 -- The hole that the root leaves goes down, and the last entry rises from there.
-use mathlib.Core.Path.{refl}
-use Prim.Native.Nat.{_-_}
+use mathlib.Core.Path.{_≡_, refl, sym, ap, _∙_}
+use mathlib.Core.Bool.{true, false}
+use mathlib.Core.List.{List}
+use Prim.Native.Nat.{ℕ, _-_}
 use borrow.Author.Needs.{needs}
+use borrow.Author.Tests.{lt-ltb, le-ltb}
 use native.Mathlib.Omega.{arith}
-use Rattle.waiting.specs.Entries.{keyIn}
-use Rattle.waiting.proofs.Holes.{hole-first, below-childless, fewer}
-use Rattle.waiting.proofs.Answers.{key-is, root-left, root-alone, popped}
+use lib.Dec.{ltb}
+use Rattle.waiting.specs.declared.Entry.{Entry}
+use Rattle.waiting.specs.Sift.{risenIn, dugIn, popIn}
+use Rattle.waiting.proofs.Sifted.{dug-within}
 use Rattle.waiting.proofs.pop.Statement.{statement}
 use Rattle.waiting.proofs.pop.Tie as tie
 
@@ -19,19 +23,21 @@ entry-at-requires-2 : tie.Need-entry-at-requires-2
 entry-at-requires-2 c κs = search needs
 
 dig-requires : tie.Need-dig-requires
-dig-requires c κs =
-    let start = c .before .before .before .before .before .before .before in
-    (hole-first _ (start .args .size) _ (start .pre .0) (omega arith), (omega arith, omega arith))
+dig-requires c κs = search needs
 
 rise-requires : tie.Need-rise-requires
 rise-requires c κs =
     let dug = c .before .before .before .dig in
-    ((dug .ensures .hole, below-childless (keyIn (dug .last .0)) _ (dug .result) _ (dug .ensures .childless)), (dug .ensures .within, omega (arith, dug .kept .0)))
+    let start = c .before .before .before .before .before .before .before .before .before .before .before in
+    let within = dug-within (start .args .size - 1) (start .args .heap .now) (start .args .size - 1) 0 (omega arith) in
+    let place = ap (λ (x : List ℕ × ℕ). x .1) (dug .ensures) in
+    (omega arith, omega (arith, dug .kept .0))
 
 same-length : tie.Need-same-length
 same-length c = search needs
 
 returns : tie.Need-returns
+unfolding popIn
 returns c =
     let dug = c .before .before .before .before .before .before .dig in
     let risen = c .before .before .rise .ensures in
@@ -40,19 +46,23 @@ returns c =
     let start = first .before .before .before in
     let l = start .args .heap .now in
     let size = start .args .size in
-    popped l _ size _ (λ k. omega (arith, first .before .before .slice-known .given k)) (start .pre .0) (first .entry-at .ensures) (risen .heap)
-    (root-left (keyIn l) (keyIn (dug .last .0)) _ size (dug .result) _ (omega arith) (dug .ensures) risen (key-is l (size - 1) (last .entry-at2 .ensures)))
-    (search needs)
+    let more : ltb 0 (size - 1) ≡ true = lt-ltb 0 (size - 1) (omega arith) in (
+      first .entry-at .ensures,
+      risen
+          ∙ ap (λ (d : List ℕ × ℕ). risenIn (d .1) (d .0) (d .1) (last .entry-at2 .result)) (dug .ensures)
+          ∙ ap (λ (e : Entry). let d = dugIn (size - 1) l (size - 1) 0 in risenIn (d .1) (d .0) (d .1) e) (last .entry-at2 .ensures)
+          ∙ sym (rw more refl),
+    )
 
 same-length-2 : tie.Need-same-length-2
 same-length-2 c = search needs
 
 returns-2 : tie.Need-returns-2
+unfolding popIn
 returns-2 c =
     let start = c .before .before .before .before in
-    let l = start .args .heap .now in
-    let size = start .args .size in
-    popped l l size _ (λ k. omega (arith, c .before .before .before .slice-known .given k)) (start .pre .0) (c .before .entry-at .ensures) (fewer (keyIn l) size (size - 1) (start .pre .0) (omega arith)) (root-alone (keyIn l) size (omega arith)) refl
+    let none : ltb 0 (start .args .size - 1) ≡ false = le-ltb 0 (start .args .size - 1) (omega arith) in
+    (c .before .entry-at .ensures, rw none refl)
 
 pub pop-spec : {M : Type 1} → statement M
 pop-spec =

@@ -1,9 +1,6 @@
 -- Word by word.
-use mathlib.Core.Path.{_≡_}
 use borrow.Author.Needs.{needs}
-use native.Mathlib.Omega.{arith}
 use Rattle.waiting.specs.Entries.{entryStored}
-use Rattle.waiting.proofs.Stored.{stored-replaced}
 use Rattle.waiting.proofs.store.Statement.{statement}
 use Rattle.waiting.proofs.store.Tie as tie
 
@@ -37,9 +34,7 @@ same-length c = search needs
 returns : tie.Need-returns
 unfolding entryStored
 returns c =
-    let args = c .before .before .before .before .before .before .before .before .before .before .before .before .before .before .before .before .before .args in
-    let put : c .before .before .write64-little4 .last .0 ≡ entryStored (args .heap .now) (args .i) (args .e) = cc in
-    stored-replaced (args .heap .now) (args .i) (args .e) (omega arith) (search needs) put
+    cc
 
 pub store-spec : {M : Type 1} → statement M
 store-spec =

@@ -1,8 +1,8 @@
--- The invariant: so many cells were counted, and the rest of the route is still to be traced.
+-- The invariant: so many cells were counted, and the way from here is the rest of the whole way.
 use mathlib.Core.Path.{sym, _∙_}
 use native.Mathlib.Omega.{arith}
 use borrow.Author.Needs.{needs}
-use Rattle.astar.specs.WayLaws.{Counting, counting-start, counting-out, counting-ends, counting-next}
+use Rattle.astar.specs.WayLaws.{Counting, counting-start, counting-out, counting-ends, counting-broken, counting-next}
 use Rattle.astar.proofs.way.cells_to.Statement.{statement}
 use Rattle.astar.proofs.way.cells_to.Tie as tie
 
@@ -13,10 +13,13 @@ abbrev μ-loop : tie.MeasureT-loop
 μ-loop workspace plan sizes i at₀ left₀ cells₀ at left cells = left
 
 loop-holds : tie.Need-loop-holds Inv-loop μ-loop
-loop-holds c = counting-start ((c .before .pre) .1 .0)
+loop-holds c = counting-start (c .before .pre .1)
 
 cell-at-requires : tie.Need-cell-at-requires Inv-loop μ-loop
-cell-at-requires c κs = ((c .before .before .before .pre) .0 .known .roomy, omega (arith, (c .before .loop) .inv .tracing .below, (c .before .before .before .pre) .0 .known .count))
+cell-at-requires c κs =
+    let at-loop = c .before in
+    let sized = at-loop .before .before .pre .0 in
+    (sized .roomy, omega (arith, at-loop .loop .inv .below, sized .known))
 
 same-requires : tie.Need-same-requires Inv-loop μ-loop
 same-requires c κs = search needs
@@ -31,34 +34,41 @@ returns c =
 before-at-requires : tie.Need-before-at-requires Inv-loop μ-loop
 before-at-requires c κs =
     let at-loop = c .before .before .before .before in
-    let entry = at-loop .before .before in
-    (entry .pre .0, at-loop .loop .inv .tracing .below)
+    let sized = at-loop .before .before .pre .0 in
+    (sized .roomy, (sized .known, at-loop .loop .inv .below))
+
+returns-2 : tie.Need-returns-2 Inv-loop μ-loop
+returns-2 c =
+    let at-before-at = c .before .before in
+    let at-if1 = at-before-at .before in
+    let at-same = at-if1 .before in
+    let at-cell-at = at-same .before in
+    let at-loop-test = at-cell-at .before in
+    counting-broken (at-loop-test .before .loop .inv) _ (at-cell-at .cell-at .ensures) (at-loop-test .loop-test .taken) (sym (at-same .same .ensures) ∙ at-if1 .if1 .left) _ (at-before-at .before-at .ensures) (c .if2 .taken)
 
 sub-left : tie.Need-sub-left Inv-loop μ-loop
 sub-left c = omega arith
 
 add-cells : tie.Need-add-cells Inv-loop μ-loop
 add-cells c =
-    let at-loop = c .before .before .before .before .before in
-    let entry = at-loop .before .before in
-    omega (arith, at-loop .loop .inv .together, entry .pre .1 .1)
+    let at-loop = c .before .before .before .before .before .before .before in
+    let sized = at-loop .before .before .pre .0 in
+    omega (arith, at-loop .loop .inv .together, sized .counted, sized .known, sized .roomy .small)
 
 loop-less : tie.Need-loop-less Inv-loop μ-loop
 loop-less c = omega arith
 
 loop-again : tie.Need-loop-again Inv-loop μ-loop
 loop-again c =
-    let at-if1 = c .before in
+    let at-before-at = c .before .before in
+    let at-if1 = at-before-at .before in
     let at-same = at-if1 .before in
     let at-cell-at = at-same .before in
     let at-loop-test = at-cell-at .before in
-    let at-loop = at-loop-test .before in
-    let at-shared-slice-known = at-loop .before in
-    let entry = at-shared-slice-known .before in
-    counting-next (at-loop .loop .inv) _ (at-cell-at .cell-at .ensures) (entry .pre .0) (λ k. omega (arith, at-shared-slice-known .shared-slice-known .given k)) (at-loop-test .loop-test .taken) (sym (at-same .same .ensures) ∙ at-if1 .if1 .left) _ (c .before-at .ensures)
+    counting-next (at-loop-test .before .loop .inv) _ (at-cell-at .cell-at .ensures) (at-loop-test .loop-test .taken) (sym (at-same .same .ensures) ∙ at-if1 .if1 .left) _ (at-before-at .before-at .ensures) (c .if2 .left)
 
-returns-2 : tie.Need-returns-2 Inv-loop μ-loop
-returns-2 c = counting-out ((c .before .loop) .inv) ((c .loop-test) .left)
+returns-3 : tie.Need-returns-3 Inv-loop μ-loop
+returns-3 c = counting-out (c .before .loop .inv) (c .loop-test .left)
 
 pub cells-to-spec : {M : Type 1} → statement M
 cells-to-spec =
@@ -71,8 +81,9 @@ cells-to-spec =
     same-requires
     returns
     before-at-requires
+    returns-2
     sub-left
     add-cells
     loop-less
     loop-again
-    returns-2)
+    returns-3)

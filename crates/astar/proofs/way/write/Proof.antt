@@ -1,4 +1,4 @@
--- The invariant: the cells that were passed are written behind the place of the next.
+-- The invariant: the cells that were passed are written behind the place of the next. The way is whole, so that the record before is a known one.
 use mathlib.Core.Path.{_∙_}
 use native.Mathlib.Omega.{arith}
 use Rattle.astar.specs.WayLaws.{Writing, way-some, writing-start, writing-length, writing-within, writing-next, writing-last}
@@ -12,25 +12,31 @@ abbrev μ-loop : tie.MeasureT-loop
 μ-loop workspace plan sizes i cells output₀ at₀ place₀ output at place = place
 
 sub-place : tie.Need-sub-place Inv-loop μ-loop
-sub-place c = omega (arith, (c .before .before .pre) .1 .1 .0, way-some ((c .before .before .args) .plan) ((c .before .before .args) .workspace .now) ((c .before .before .args) .sizes) ((c .before .before .args) .i))
+sub-place c =
+    let entry = c .before .before in
+    let args = entry .args in
+    omega (arith, way-some (args .plan) (args .workspace .now) (args .sizes) (args .i) (args .cells) (entry .pre .1 .1 .0))
 
 loop-holds : tie.Need-loop-holds Inv-loop μ-loop
-loop-holds c = writing-start ((c .before .before .pre) .1 .0) ((c .before .before .pre) .1 .1 .0) ((c .before .before .pre) .1 .1 .1)
+loop-holds c =
+    let entry = c .before .before in
+    let args = entry .args in
+    writing-start (args .plan) (args .workspace .now) (args .sizes) (args .i) (args .cells) (entry .pre .1 .1 .0) (args .output .now) (entry .pre .1 .0) (entry .pre .1 .1 .1)
 
 cell-at-requires : tie.Need-cell-at-requires Inv-loop μ-loop
 cell-at-requires c κs =
     let at-loop = c .before .before in
-    let entry = at-loop .before .before .before in
-    (entry .pre .0 .known .roomy, omega (arith, at-loop .loop .inv .tracing .below, entry .pre .0 .known .count))
+    let sized = at-loop .before .before .before .pre .0 in
+    (sized .roomy, omega (arith, at-loop .loop .inv .below, sized .known))
 
 put-requires : tie.Need-put-requires Inv-loop μ-loop
-put-requires c κs = writing-within ((c .before .before .before .loop) .inv)
+put-requires c κs = writing-within (c .before .before .before .loop .inv)
 
 before-at-requires : tie.Need-before-at-requires Inv-loop μ-loop
 before-at-requires c κs =
     let at-loop = c .before .before .before .before .before .before in
-    let entry = at-loop .before .before .before in
-    (entry .pre .0, at-loop .loop .inv .tracing .below)
+    let sized = at-loop .before .before .before .pre .0 in
+    (sized .roomy, (sized .known, at-loop .loop .inv .below))
 
 sub-place-2 : tie.Need-sub-place-2 Inv-loop μ-loop
 sub-place-2 c = omega arith
@@ -44,18 +50,16 @@ loop-again c =
     let at-cell-at = at-put .before in
     let at-loop-test = at-cell-at .before .before in
     let at-loop = at-loop-test .before in
-    let at-shared-slice-known = at-loop .before .before in
-    let entry = at-shared-slice-known .before in
-    writing-next (at-loop .loop .inv) (λ k. omega (arith, at-shared-slice-known .shared-slice-known .given k)) _ (at-cell-at .cell-at .ensures) _ (at-put .put .ensures) (entry .pre .0) (at-loop-test .loop-test .taken) _ (c .before-at .ensures)
+    writing-next (at-loop .loop .inv) _ (at-cell-at .cell-at .ensures) _ (at-put .put .ensures) (at-loop-test .loop-test .taken) _ (c .before-at .ensures)
 
 cell-at-requires-2 : tie.Need-cell-at-requires-2 Inv-loop μ-loop
 cell-at-requires-2 c κs =
     let at-loop = c .before .before in
-    let entry = at-loop .before .before .before in
-    (entry .pre .0 .known .roomy, omega (arith, at-loop .loop .inv .tracing .below, entry .pre .0 .known .count))
+    let sized = at-loop .before .before .before .pre .0 in
+    (sized .roomy, omega (arith, at-loop .loop .inv .below, sized .known))
 
 put-requires-2 : tie.Need-put-requires-2 Inv-loop μ-loop
-put-requires-2 c κs = omega (arith, writing-within ((c .before .before .before .loop) .inv))
+put-requires-2 c κs = omega (arith, writing-within (c .before .before .before .loop .inv))
 
 same-length : tie.Need-same-length Inv-loop μ-loop
 same-length c =
@@ -69,8 +73,7 @@ returns c =
     let at-cell-at2 = at-put2 .before in
     let at-loop-test = at-cell-at2 .before .before in
     let at-loop = at-loop-test .before in
-    let at-shared-slice-known = at-loop .before .before in
-    writing-last (at-loop .loop .inv) (λ k. omega (arith, at-shared-slice-known .shared-slice-known .given k)) _ (at-cell-at2 .cell-at2 .ensures) _ (at-put2 .put2 .ensures) (at-loop-test .loop-test .left)
+    writing-last (at-loop .loop .inv) _ (at-cell-at2 .cell-at2 .ensures) _ (at-put2 .put2 .ensures) (at-loop-test .loop-test .left)
 
 pub write-spec : {M : Type 1} → statement M
 write-spec =

@@ -1,7 +1,6 @@
 -- A start that is too far from the goal, or the one row and the one entry of the start.
-use native.Mathlib.Omega.{arith}
 use borrow.Author.Needs.{needs}
-use Rattle.astar.specs.BeginLaws.{unbegun-meets, begin-meets}
+use Rattle.astar.specs.BeginLaws.{begin-stopped, begin-going}
 use Rattle.astar.proofs.whole.begin.Statement.{statement}
 use Rattle.astar.proofs.whole.begin.Tie as tie
 
@@ -27,8 +26,9 @@ returns : tie.Need-returns
 returns c =
     let at-r = c .before in
     let at-ahead = at-r .before .before in
-    let entry = at-ahead .before .before .before .before .before .before in
-    unbegun-meets (entry .args .plan) _ _ _ _ _ _ (rw (at-r .r .given .1) at (at-ahead .ahead .ensures .0))
+    let args = at-ahead .before .before .before .before .before .args in
+    let told = rw (at-r .r .given .1) at (at-ahead .ahead .ensures .0) in
+    begin-stopped (args .plan) (args .workspace .now) (args .heap .now) _ told
 
 same-length : tie.Need-same-length
 same-length c = search needs
@@ -43,8 +43,9 @@ returns-2 c =
     let at-clear = at-append .before .before .before .before in
     let at-h = at-clear .before .before .before in
     let at-ahead = at-h .before .before in
-    let entry = at-ahead .before .before .before .before .before .before in
-    begin-meets (entry .args .plan) _ _ _ _ _ _ _ _ _ (rw (at-h .h .given .1) at (at-ahead .ahead .ensures .0)) (rw (at-h .h .given .1) at (at-ahead .ahead .ensures .1)) (record { high-word = omega (arith, entry .good); low-word = omega (arith, entry .good) }) (at-clear .clear .ensures) (at-clear .clear .kept .0) (entry .pre) (at-append .append .ensures .0) (at-append .append .ensures .1) (at-push .push .ensures)
+    let args = at-ahead .before .before .before .before .before .args in
+    let told = rw (at-h .h .given .1) at (at-ahead .ahead .ensures .0) in
+    begin-going (args .plan) (args .workspace .now) (args .heap .now) _ _ _ _ told (at-clear .clear .ensures) (at-append .append .ensures) (at-push .push .ensures)
 
 pub begin-spec : {M : Type 1} → statement M
 begin-spec =

@@ -1,7 +1,7 @@
--- A search that has ended was refused, or has come to its goal, which is known.
+-- A refusal, the way back from the goal where it is found, or bytes that hold no search that has ended.
 use mathlib.Core.Path.{_∙_}
 use borrow.Author.Needs.{needs}
-use Rattle.astar.specs.EndLaws.{never-unknown, shown-stopped, shown-arrived}
+use Rattle.astar.specs.EndLaws.{end-stopped, end-going, end-looked, end-under}
 use Rattle.astar.proofs.whole.end.Statement.{statement}
 use Rattle.astar.proofs.whole.end.Tie as tie
 
@@ -12,7 +12,10 @@ enum-known-step-2 : tie.Need-enum-known-step-2
 enum-known-step-2 c = search needs
 
 look-requires : tie.Need-look-requires
-look-requires c κs = (rw ((c .before .before .step2) .given .1) at (c .before .before .before .before .before .before .before .pre)) .0
+look-requires c κs =
+    let at-step2 = c .before .before in
+    let sized = rw (at-step2 .step2 .given .1) at (at-step2 .before .before .before .before .pre) in
+    (sized .roomy, sized .known)
 
 enum-known-i : tie.Need-enum-known-i
 enum-known-i c = search needs
@@ -22,8 +25,9 @@ answer-requires c κs =
     let at-i = c .before .before in
     let at-look = at-i .before .before in
     let at-step2 = at-look .before .before .before in
-    let entry = at-step2 .before .before .before .before .before in
-    ((rw (at-step2 .step2 .given .1) at (entry .pre)) .0, ((rw (at-i .i .given .1) at (at-look .look .ensures)) .0, (rw (at-step2 .step2 .given .1) at (entry .pre)) .1))
+    let entry = at-step2 .before .before .before .before in
+    let args = entry .args in
+    (rw (at-step2 .step2 .given .1) at (entry .pre), end-under (args .plan) (args .workspace .now) (args .output .now) _ (at-step2 .step2 .given .1) (at-look .look .ensures) _ (at-i .i .given .1))
 
 enum-told : tie.Need-enum-told
 enum-told c = search needs
@@ -34,9 +38,8 @@ enum-told-2 c = search needs
 returns : tie.Need-returns
 returns c =
     let at-step = c .before in
-    let entry = at-step .before .before .before .before .before in
-    let args = entry .args in
-    shown-stopped (args .plan) (args .flags .now) (args .workspace .now) (args .count) (args .output .now) _ (at-step .step .given .1)
+    let args = at-step .before .before .before .before .args in
+    end-stopped (args .plan) (args .workspace .now) (args .output .now) _ (at-step .step .given .1)
 
 same-length : tie.Need-same-length
 same-length c = search needs
@@ -47,19 +50,20 @@ returns-2 c =
     let at-i = at-answer .before .before .before in
     let at-look = at-i .before .before in
     let at-step2 = at-look .before .before .before in
-    let entry = at-step2 .before .before .before .before .before in
-    let args = entry .args in
-    at-answer .answer .ensures ∙ shown-arrived (args .plan) (args .flags .now) (args .workspace .now) (args .count) (args .output .now) _ _ (at-step2 .step2 .given .1) ((rw (at-i .i .given .1) at (at-look .look .ensures)) .1) ((rw (at-i .i .given .1) at (at-look .look .ensures)) .2)
+    let args = at-step2 .before .before .before .before .args in
+    at-answer .answer .ensures ∙ end-looked (args .plan) (args .workspace .now) (args .output .now) _ (at-step2 .step2 .given .1) (at-look .look .ensures) (at-i .i .given .1)
 
 returns-3 : tie.Need-returns-3
 returns-3 c =
     let at-look = c .before .before in
     let at-step2 = at-look .before .before .before in
-    let entry = at-step2 .before .before .before .before .before in
-    absurd (never-unknown ((rw (at-step2 .step2 .given .1) at (entry .pre)) .2) ((rw (c .enum-told .given .1) at (at-look .look .ensures)) .1))
+    let args = at-step2 .before .before .before .before .args in
+    end-looked (args .plan) (args .workspace .now) (args .output .now) _ (at-step2 .step2 .given .1) (at-look .look .ensures) (c .enum-told .given .1)
 
 returns-4 : tie.Need-returns-4
-returns-4 c = absurd (rw ((c .enum-told2) .given .1) at (c .before .before .before .before .before .pre))
+returns-4 c =
+    let args = c .before .before .before .before .args in
+    end-going (args .plan) (args .workspace .now) (args .output .now) _ (c .enum-told2 .given .1)
 
 pub end-spec : {M : Type 1} → statement M
 end-spec =

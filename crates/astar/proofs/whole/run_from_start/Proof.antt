@@ -1,7 +1,8 @@
 -- A first step that is the last, or all others after it.
 use borrow.Author.Needs.{needs}
+use Rattle.layer.specs.Layer.{rowsOf}
 use Rattle.expansion.proofs.Last.{ended}
-use Rattle.astar.specs.EndLaws.{met-ran, then-ran}
+use Rattle.astar.specs.WholeLaws.{whole-first, whole-then, begin-fits}
 use Rattle.astar.proofs.whole.run_from_start.Statement.{statement}
 use Rattle.astar.proofs.whole.run_from_start.Tie as tie
 
@@ -20,14 +21,15 @@ same-length-2 c = search needs
 returns : tie.Need-returns
 returns c =
     let at-begin = c .before .before .before .before .before in
-    met-ran (at-begin .begin .ensures) (ended (at-begin .begin .result) (c .match .keys2))
+    let args = at-begin .before .before .before .before .before .before .args in
+    whole-first (args .plan) (rowsOf 20 (args .flags .now) (args .count)) (args .workspace .now) (args .heap .now) _ _ _ (at-begin .begin .ensures) (ended (at-begin .begin .result) (c .match .keys2))
 
 run-requires : tie.Need-run-requires
 run-requires c κs =
     let at-first = c .before .before .before in
     let at-begin = at-first .before .before .before .before .before .before in
     let entry = at-begin .before .before .before .before .before .before in
-    ((rw (at-first .first .given .1) at (at-begin .begin .ensures)) .good, entry .pre .sound)
+    (begin-fits (entry .args .plan) (entry .args .workspace .now) (entry .args .heap .now) _ _ _ (entry .pre .rooms) (rw (at-first .first .given .1) at (at-begin .begin .ensures)), entry .pre .sound)
 
 same-length-3 : tie.Need-same-length-3
 same-length-3 c = search needs
@@ -40,7 +42,9 @@ returns-2 c =
     let at-run = c .before .before .before .before in
     let at-first = at-run .before .before .before .before in
     let at-begin = at-first .before .before .before .before .before .before in
-    then-ran _ _ _ (rw (at-first .first .given .1) at (at-begin .begin .ensures)) (at-run .run .ensures)
+    let args = at-begin .before .before .before .before .before .before .args in
+    let began = rw (at-first .first .given .1) at (at-begin .begin .ensures) in
+    whole-then (args .plan) (rowsOf 20 (args .flags .now) (args .count)) (args .workspace .now) (args .heap .now) _ _ _ _ began (at-run .run .ensures)
 
 pub run-from-start-spec : {M : Type 1} → statement M
 run-from-start-spec =

@@ -1,11 +1,7 @@
 -- One cell fits where there is room for any.
-use mathlib.Core.Path.{refl}
-use mathlib.Core.List.{[], _∷_}
 use native.Mathlib.Omega.{arith}
 use borrow.Author.Needs.{needs}
-use Rattle.refusal.specs.Table.{rawOf}
-use Rattle.astar.specs.WayLaws.{way-refused}
-use Rattle.astar.specs.CallLaws.{stay-found}
+use Rattle.astar.specs.CallLaws.{stay-refused, stay-found}
 use Rattle.astar.proofs.whole.stay.Statement.{statement}
 use Rattle.astar.proofs.whole.stay.Tie as tie
 
@@ -16,7 +12,7 @@ same-length : tie.Need-same-length
 same-length c = search needs
 
 returns : tie.Need-returns
-returns c = way-refused (rawOf ((c .before .before .before .before .args) .c) ∷ []) 0 0 1 ((c .before .before .before .before .args) .output .now) refl (omega arith)
+returns c = stay-refused ((c .before .before .before .before .args) .c) ((c .before .before .before .before .args) .output .now) (omega arith)
 
 put-requires : tie.Need-put-requires
 put-requires c κs = search needs
