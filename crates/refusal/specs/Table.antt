@@ -1,12 +1,34 @@
--- The table "Refusal numbers" of the scope document: each refusal's number and what it carries, in the table's order. Definitions only. Assumes nothing.
+-- The table "Refusal numbers" of the scope document: each refusal's number and all that it carries, in the table's order. What C is told of a refusal and what the report prints of it are
+-- made of its row and of nothing else. Definitions only. Assumes nothing.
 use Prim.Native.Nat.{ℕ, _+_, _*_, _^_}
-use mathlib.Core.List.{List, [], _∷_}
-use lib.IntN.{ℤ, pos}
+use lib.IntN.{pos}
+use Rattle.refusal.specs.declared.Coord.{Coord}
 use Rattle.refusal.specs.declared.Cell.{Cell}
+use Rattle.refusal.specs.declared.Ends.{Ends}
+use Rattle.refusal.specs.declared.Spent.{Spent}
+use Rattle.refusal.specs.declared.Row.{Row}
 use Rattle.refusal.specs.declared.Room.{Room}
 use Rattle.refusal.specs.declared.Room.the-variants.{Known, Waiting, Output, Layer}
 use Rattle.refusal.specs.declared.Refusal.{Refusal}
 use Rattle.refusal.specs.declared.Refusal.the-variants.{InvalidParity, NoParent, NoChildren, OutOfRange, NoValues, HasNan, SearchLimitExceeded, NoPathFound, CoordOverflow, NoRoom, BadWorkspace, BadFile, BadList, BadLayer, BadRule}
+
+-- a cell's 128 bits as one number
+unfoldable pub rawOf : Cell → ℕ
+rawOf c = c .high * 2 ^ 64 + c .low
+
+-- ---- what a refusal carries; where it does not carry such a thing, zeros stand for it
+
+abbrev pub noCoord : Coord
+noCoord = record { x = pos 0; y = pos 0; z = pos 0 }
+
+abbrev noCell : Cell
+noCell = record { high = 0; low = 0 }
+
+abbrev pub noneSpent : Spent
+noneSpent = record { expansions = 0; limit = 0 }
+
+abbrev pub noEnds : Ends
+noEnds = record { start = noCell; goal = noCell }
 
 -- the room of refusal 10
 abbrev pub roomOf : Room → ℕ
@@ -15,52 +37,35 @@ roomOf Waiting = 2
 roomOf Output = 3
 roomOf Layer = 4
 
--- a cell's 128 bits as one number
-unfoldable pub rawOf : Cell → ℕ
-rawOf c = c .high * 2 ^ 64 + c .low
+-- ---- the table
 
--- a refusal's number, and what it carries
-pub record Row : Type 0 where
-  pub number : ℕ
-  pub carries : List ℤ
+abbrev pub carrying : ℕ → Coord → Spent → Ends → ℕ → ℕ → Row
+carrying number coord spent ends room place = record { number = number; coord = coord; spent = spent; ends = ends; room = room; place = place }
 
-abbrev row : ℕ → List ℤ → Row
-row n l = record { number = n; carries = l }
+-- a refusal that carries nothing
+abbrev pub bare : ℕ → Row
+bare number = carrying number noCoord noneSpent noEnds 0 0
 
 abbrev pub rowOf : Refusal → Row
-rowOf (InvalidParity c) = row 1 (c .x ∷ c .y ∷ c .z ∷ [])
-rowOf NoParent = row 2 []
-rowOf NoChildren = row 3 []
-rowOf OutOfRange = row 4 []
-rowOf NoValues = row 5 []
-rowOf HasNan = row 6 []
-rowOf (SearchLimitExceeded s) = row 7 (pos (s .expansions) ∷ pos (s .limit) ∷ [])
-rowOf (NoPathFound e) = row 8 (pos (rawOf (e .start)) ∷ pos (rawOf (e .goal)) ∷ [])
-rowOf CoordOverflow = row 9 []
-rowOf (NoRoom r) = row 10 (pos (roomOf r) ∷ [])
-rowOf BadWorkspace = row 11 []
-rowOf (BadFile p) = row 12 (pos p ∷ [])
-rowOf BadList = row 13 []
-rowOf BadLayer = row 14 []
-rowOf BadRule = row 15 []
+rowOf (InvalidParity coord) = carrying 1 coord noneSpent noEnds 0 0
+rowOf NoParent = bare 2
+rowOf NoChildren = bare 3
+rowOf OutOfRange = bare 4
+rowOf NoValues = bare 5
+rowOf HasNan = bare 6
+rowOf (SearchLimitExceeded spent) = carrying 7 noCoord spent noEnds 0 0
+rowOf (NoPathFound ends) = carrying 8 noCoord noneSpent ends 0 0
+rowOf CoordOverflow = bare 9
+rowOf (NoRoom room) = carrying 10 noCoord noneSpent noEnds (roomOf room) 0
+rowOf BadWorkspace = bare 11
+rowOf (BadFile place) = carrying 12 noCoord noneSpent noEnds 0 place
+rowOf BadList = bare 13
+rowOf BadLayer = bare 14
+rowOf BadRule = bare 15
 
 abbrev pub numberOf : Refusal → ℕ
 numberOf r = rowOf r .number
 
 -- the byte place of refusal 12; the others have none
 abbrev pub placeOf : Refusal → ℕ
-placeOf (InvalidParity c) = 0
-placeOf NoParent = 0
-placeOf NoChildren = 0
-placeOf OutOfRange = 0
-placeOf NoValues = 0
-placeOf HasNan = 0
-placeOf (SearchLimitExceeded s) = 0
-placeOf (NoPathFound e) = 0
-placeOf CoordOverflow = 0
-placeOf (NoRoom r) = 0
-placeOf BadWorkspace = 0
-placeOf (BadFile p) = p
-placeOf BadList = 0
-placeOf BadLayer = 0
-placeOf BadRule = 0
+placeOf r = rowOf r .place

@@ -1,6 +1,6 @@
 // What a call answers when it has no answer: the fifteen refusals of the scope document, with what each carries.
 ghost use mathlib.Core.Path.{_≡_};
-ghost use Rattle.refusal.specs.Table.{numberOf, roomOf, placeOf};
+ghost use Rattle.refusal.specs.Table.{carrying, bare, rowOf, numberOf, roomOf};
 
 // A place of the lattice. It is a lattice point where its coordinates are all even or all odd.
 pub struct Coord {
@@ -67,7 +67,31 @@ pub enum Outcome {
     Refused(Refusal),
 }
 
-pub fn room_number(r: Room) -> u32
+// A refusal's row of the table: its number, and what it carries. What it does not carry is 0.
+pub struct Row {
+    pub number: u32,
+    pub coord: Coord,
+    pub spent: Spent,
+    pub ends: Ends,
+    pub room: u32,
+    pub place: u64,
+}
+
+const NO_COORD: Coord = Coord { x: 0, y: 0, z: 0 };
+
+const NO_CELL: Cell = Cell { high: 0, low: 0 };
+
+const NONE_SPENT: Spent = Spent {
+    expansions: 0,
+    limit: 0,
+};
+
+const NO_ENDS: Ends = Ends {
+    start: NO_CELL,
+    goal: NO_CELL,
+};
+
+fn room_number(r: Room) -> u32
     ensures { λ n. ⌜ n ≡ roomOf r ⌝ }
 {
     match r {
@@ -78,34 +102,59 @@ pub fn room_number(r: Room) -> u32
     }
 }
 
-pub fn number(r: Refusal) -> u32
-    ensures { λ n. ⌜ n ≡ numberOf r ⌝ }
+const BARE: Row = Row {
+    number: 0,
+    coord: NO_COORD,
+    spent: NONE_SPENT,
+    ends: NO_ENDS,
+    room: 0,
+    place: 0,
+};
+
+pub fn row_of(r: Refusal) -> Row
+    ensures { λ t. ⌜ t ≡ rowOf r ⌝ }
 {
     match r {
-        Refusal::InvalidParity(_) => 1,
-        Refusal::NoParent => 2,
-        Refusal::NoChildren => 3,
-        Refusal::OutOfRange => 4,
-        Refusal::NoValues => 5,
-        Refusal::HasNan => 6,
-        Refusal::SearchLimitExceeded(_) => 7,
-        Refusal::NoPathFound(_) => 8,
-        Refusal::CoordOverflow => 9,
-        Refusal::NoRoom(_) => 10,
-        Refusal::BadWorkspace => 11,
-        Refusal::BadFile(_) => 12,
-        Refusal::BadList => 13,
-        Refusal::BadLayer => 14,
-        Refusal::BadRule => 15,
+        Refusal::InvalidParity(coord) => Row {
+            number: 1,
+            coord,
+            ..BARE
+        },
+        Refusal::NoParent => Row { number: 2, ..BARE },
+        Refusal::NoChildren => Row { number: 3, ..BARE },
+        Refusal::OutOfRange => Row { number: 4, ..BARE },
+        Refusal::NoValues => Row { number: 5, ..BARE },
+        Refusal::HasNan => Row { number: 6, ..BARE },
+        Refusal::SearchLimitExceeded(spent) => Row {
+            number: 7,
+            spent,
+            ..BARE
+        },
+        Refusal::NoPathFound(ends) => Row {
+            number: 8,
+            ends,
+            ..BARE
+        },
+        Refusal::CoordOverflow => Row { number: 9, ..BARE },
+        Refusal::NoRoom(room) => Row {
+            number: 10,
+            room: room_number(room),
+            ..BARE
+        },
+        Refusal::BadWorkspace => Row { number: 11, ..BARE },
+        Refusal::BadFile(place) => Row {
+            number: 12,
+            place,
+            ..BARE
+        },
+        Refusal::BadList => Row { number: 13, ..BARE },
+        Refusal::BadLayer => Row { number: 14, ..BARE },
+        Refusal::BadRule => Row { number: 15, ..BARE },
     }
 }
 
-// The byte place that a refused file is told, 0 with a refusal that has none.
-pub fn place(r: Refusal) -> u64
-    ensures { λ p. ⌜ p ≡ placeOf r ⌝ }
+pub fn number(r: Refusal) -> u32
+    ensures { λ n. ⌜ n ≡ numberOf r ⌝ }
 {
-    match r {
-        Refusal::BadFile(p) => p,
-        _ => 0,
-    }
+    row_of(r).number
 }

@@ -1,11 +1,9 @@
--- The search for C: it is the definition of `astar`, told. A route has its number of cells, its cost and its expansions; refusal 7 carries expansions and limit, refusal 8 the start and the
--- goal, each cell as its two words. What neither carries is 0. Definitions only. Assumes nothing.
+-- The search for C: it is the definition of `astar`, told. A route has its number of cells, its cost and its expansions; a refusal has what its row carries: expansions and limit (7),
+-- start and goal (8), each cell as its two words. Definitions only. Assumes nothing.
 use mathlib.Core.List.{List}
 use Prim.Native.Nat.{ℕ}
-use Rattle.refusal.specs.declared.Ends.{Ends}
-use Rattle.refusal.specs.declared.Spent.{Spent}
 use Rattle.refusal.specs.declared.Refusal.{Refusal}
-use Rattle.refusal.specs.declared.Refusal.the-variants.{InvalidParity, NoParent, NoChildren, OutOfRange, NoValues, HasNan, SearchLimitExceeded, NoPathFound, CoordOverflow, NoRoom, BadWorkspace, BadFile, BadList, BadLayer, BadRule}
+use Rattle.refusal.specs.Table.{rowOf}
 use Rattle.search.specs.declared.Route.{Route}
 use Rattle.search.specs.declared.SearchAnswer.{SearchAnswer}
 use Rattle.search.specs.declared.SearchAnswer.the-variants as answer
@@ -17,33 +15,21 @@ abbrev pub routeTold : Route → SearchTold
 routeTold r =
     record { refusal = answered; cells = r .cells; cost = r .cost; expansions = r .expansions; limit = 0; «start_high» = 0; «start_low» = 0; «goal_high» = 0; «goal_low» = 0 }
 
-abbrev pub spentTold : Refusal → Spent → SearchTold
-spentTold r s =
-    record { refusal = toldOf r; cells = 0; cost = 0; expansions = s .expansions; limit = s .limit; «start_high» = 0; «start_low» = 0; «goal_high» = 0; «goal_low» = 0 }
-
-abbrev pub endsTold : Refusal → Ends → SearchTold
-endsTold r e =
-    record { refusal = toldOf r; cells = 0; cost = 0; expansions = 0; limit = 0; «start_high» = e .start .high; «start_low» = e .start .low; «goal_high» = e .goal .high; «goal_low» = e .goal .low }
-
-abbrev pub bareTold : Refusal → SearchTold
-bareTold r = record { refusal = toldOf r; cells = 0; cost = 0; expansions = 0; limit = 0; «start_high» = 0; «start_low» = 0; «goal_high» = 0; «goal_low» = 0 }
-
 abbrev pub noRoute : Refusal → SearchTold
-noRoute (InvalidParity c) = bareTold (InvalidParity c)
-noRoute NoParent = bareTold NoParent
-noRoute NoChildren = bareTold NoChildren
-noRoute OutOfRange = bareTold OutOfRange
-noRoute NoValues = bareTold NoValues
-noRoute HasNan = bareTold HasNan
-noRoute (SearchLimitExceeded s) = spentTold (SearchLimitExceeded s) s
-noRoute (NoPathFound e) = endsTold (NoPathFound e) e
-noRoute CoordOverflow = bareTold CoordOverflow
-noRoute (NoRoom r) = bareTold (NoRoom r)
-noRoute BadWorkspace = bareTold BadWorkspace
-noRoute (BadFile p) = bareTold (BadFile p)
-noRoute BadList = bareTold BadList
-noRoute BadLayer = bareTold BadLayer
-noRoute BadRule = bareTold BadRule
+noRoute r =
+    let spent = rowOf r .spent in
+    let ends = rowOf r .ends in
+    record {
+      refusal = toldOf r;
+      cells = 0;
+      cost = 0;
+      expansions = spent .expansions;
+      limit = spent .limit;
+      «start_high» = ends .start .high;
+      «start_low» = ends .start .low;
+      «goal_high» = ends .goal .high;
+      «goal_low» = ends .goal .low;
+    }
 
 abbrev pub ofSearch : SearchAnswer → SearchTold
 ofSearch (answer.Found r) = routeTold r

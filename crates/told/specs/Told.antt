@@ -10,10 +10,10 @@ use lib.Ieee.{binary64, toBits}
 use Rattle.refusal.specs.declared.Coord.{Coord}
 use Rattle.refusal.specs.declared.Room.the-variants.{Output}
 use Rattle.refusal.specs.declared.Refusal.{Refusal}
-use Rattle.refusal.specs.declared.Refusal.the-variants.{InvalidParity, NoParent, NoChildren, OutOfRange, NoValues, HasNan, SearchLimitExceeded, NoPathFound, CoordOverflow, NoRoom, BadWorkspace, BadFile, BadList, BadLayer, BadRule}
+use Rattle.refusal.specs.declared.Refusal.the-variants.{NoRoom}
 use Rattle.refusal.specs.declared.Outcome.{Outcome}
 use Rattle.refusal.specs.declared.Outcome.the-variants as outcome
-use Rattle.refusal.specs.Table.{numberOf, roomOf}
+use Rattle.refusal.specs.Table.{noCoord, rowOf}
 use Rattle.root.specs.declared.RootBits.{RootBits}
 use Rattle.root.specs.declared.RootBits.the-variants as root
 use Rattle.lattice.specs.declared.Parity.{Parity}
@@ -24,7 +24,6 @@ use Rattle.lattice.specs.declared.CoordAnswer.{CoordAnswer}
 use Rattle.lattice.specs.declared.CoordAnswer.the-variants as coord
 use Rattle.lattice.specs.declared.NumberAnswer.{NumberAnswer}
 use Rattle.lattice.specs.declared.NumberAnswer.the-variants as number
-use Rattle.lattice.specs.Lattice.{at}
 use Rattle.distance.specs.declared.DistanceAnswer.{DistanceAnswer}
 use Rattle.distance.specs.declared.DistanceAnswer.the-variants as distance
 use Rattle.snap.specs.declared.PointBits.{PointBits}
@@ -40,34 +39,13 @@ use Rattle.told.specs.declared.PointTold.{PointTold}
 abbrev pub telling : ℕ → ℕ → Coord → RefusalTold
 telling n room c = record { number = n; room = room; x = c .x; y = c .y; z = c .z }
 
-abbrev pub zeroCoord : Coord
-zeroCoord = at (pos 0) (pos 0) (pos 0)
-
 -- no refusal
 abbrev pub answered : RefusalTold
-answered = telling 0 0 zeroCoord
+answered = telling 0 0 noCoord
 
--- a refusal of which nothing but the number is told
-abbrev bare : Refusal → RefusalTold
-bare r = telling (numberOf r) 0 zeroCoord
-
--- 7, 8 and 12 carry more than these fields hold: the calls that give them have structs of their own
+-- number, room and coordinates of its row. 7, 8 and 12 carry more than these fields hold: the calls that give them have structs of their own, filled from the same row
 abbrev pub toldOf : Refusal → RefusalTold
-toldOf (InvalidParity c) = telling (numberOf (InvalidParity c)) 0 c
-toldOf NoParent = bare NoParent
-toldOf NoChildren = bare NoChildren
-toldOf OutOfRange = bare OutOfRange
-toldOf NoValues = bare NoValues
-toldOf HasNan = bare HasNan
-toldOf (SearchLimitExceeded s) = bare (SearchLimitExceeded s)
-toldOf (NoPathFound e) = bare (NoPathFound e)
-toldOf CoordOverflow = bare CoordOverflow
-toldOf (NoRoom r) = telling (numberOf (NoRoom r)) (roomOf r) zeroCoord
-toldOf BadWorkspace = bare BadWorkspace
-toldOf (BadFile p) = bare (BadFile p)
-toldOf BadList = bare BadList
-toldOf BadLayer = bare BadLayer
-toldOf BadRule = bare BadRule
+toldOf r = telling (rowOf r .number) (rowOf r .room) (rowOf r .coord)
 
 -- ---- answers that are numbers, bits or a place
 

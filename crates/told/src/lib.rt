@@ -139,12 +139,8 @@ pub fn answered() -> RefusalTold
 pub fn told(r: Refusal) -> RefusalTold
     ensures { λ t. ⌜ t ≡ toldOf r ⌝ }
 {
-    let number = refusal::number(r);
-    match r {
-        Refusal::InvalidParity(c) => telling(number, 0, c),
-        Refusal::NoRoom(room) => telling(number, refusal::room_number(room), NOWHERE),
-        _ => telling(number, 0, NOWHERE),
-    }
+    let row = refusal::row_of(r);
+    telling(row.number, row.room, row.coord)
 }
 
 pub fn number(n: i32) -> NumberTold

@@ -18,7 +18,7 @@ pub fn of_load(flagged: usize, valued: usize, a: LoadAnswer) -> LoadTold
         },
         LoadAnswer::Refused(r) => LoadTold {
             refusal: crate::told(r),
-            place: refusal::place(r),
+            place: refusal::row_of(r).place,
             flags: flagged as u64,
             values: valued as u64,
         },

@@ -3,7 +3,7 @@ use borrow.Author.Needs.{needs}
 use native.Mathlib.Omega.{arith}
 use Prim.Native.Nat.{_-_}
 use mathlib.Core.Path.{refl}
-use Rattle.told.specs.Told.{zeroCoord}
+use Rattle.refusal.specs.Table.{noCoord}
 use Rattle.tishkolan.specs.Points.{triple}
 use Rattle.tishkolan.proofs.Writing.{Written, written-none, written-length, written-room, written-more, written-all}
 use Rattle.tishkolan.proofs.points.put_children.Statement.{statement}
@@ -37,7 +37,7 @@ loop-less : tie.Need-loop-less Inv-loop μ-loop
 loop-less c = search needs
 
 loop-again : tie.Need-loop-again Inv-loop μ-loop
-loop-again c = written-more (λ p. refl) (c .before .before .before .before .before .loop .inv) zeroCoord (omega arith) (c .before .put-place .ensures)
+loop-again c = written-more (λ p. refl) (c .before .before .before .before .before .loop .inv) noCoord (omega arith) (c .before .put-place .ensures)
 
 same-length : tie.Need-same-length Inv-loop μ-loop
 same-length c = written-length (λ p. refl) (c .before .loop .inv)

@@ -17,8 +17,8 @@ enum-known-a-2 c = search needs
 told-requires : tie.Need-told-requires
 told-requires c κs = search needs
 
-place-requires : tie.Need-place-requires
-place-requires c κs = search needs
+row-of-requires : tie.Need-row-of-requires
+row-of-requires c κs = search needs
 
 returns : tie.Need-returns
 returns c =
@@ -29,7 +29,7 @@ returns c =
 returns-2 : tie.Need-returns-2
 returns-2 c =
     let args = c .before .before .before .before .before .args in
-    (λ i. record { refusal = c .before .told .ensures i; place = c .place .ensures i; flags = args .flagged; values = args .valued })
+    (λ i. record { refusal = c .before .told .ensures i; place = c .row-of .ensures i .place; flags = args .flagged; values = args .valued })
     ∙ sym (ap (ofLoad (args .flagged) (args .valued)) (c .before .before .before .a2 .given .1))
 
 pub of-load-spec : {M : Type 1} → statement M
@@ -40,6 +40,6 @@ of-load-spec =
     answered-requires
     enum-known-a-2
     told-requires
-    place-requires
+    row-of-requires
     returns
     returns-2)
