@@ -10,14 +10,10 @@ fn print_report(argument: usize) {
         os::fail(&path[..length]);
         return;
     }
-    let mut file = io::large_buffer();
-    let size = io::read_full(opened, &mut file);
-    libc::close(opened);
-    let mut text = [0u8; 96];
-    let end = summary::report(&file[..size], &mut text);
     io::write_all(STDOUT_FILENO, &path[..length]);
     io::write_all(STDOUT_FILENO, b"\n");
-    io::write_all(STDOUT_FILENO, &text[..end]);
+    print::report(opened);
+    libc::close(opened);
 }
 
 fn main() {
