@@ -2,3 +2,4 @@ mod Complement
 mod Filled
 pub mod OneAnswer
 pub mod Points
+pub mod Differences

@@ -3,3 +3,4 @@ pub mod Room
 pub mod Answers
 pub mod Points
 pub mod OneAnswer
+pub mod OneParent

@@ -170,7 +170,7 @@ turned Odd t a b d q = λ i. at (q .x) (raised (not (agree-turned t a b i)) (q .
 refused-at : (r : Refusal) (q : Coord) → coord.Refused r ≡ coord.At q → ⊥
 refused-at r q e = let z : _≡_ {A = ℕ} 0 1 = cc in omega arith
 
-at-path : (p q : Coord) → coord.At p ≡ coord.At q → p ≡ q
+pub at-path : (p q : Coord) → coord.At p ≡ coord.At q → p ≡ q
 at-path p q e = cc
 
 parent-cases-by : (P : Coord → Type 0) (c q : Coord) (a : ParityAnswer) → ((p : Parity) → P (parent-of-halves p (halves c))) → parentBy a c ≡ coord.At q → P q

@@ -70,7 +70,7 @@ module _ (P : Problem) where
         same = closed-put n t c k (l .not-closed) ∙ a .same;
       }
 
-  each-any : (ns : List ℕ) → Each (λ (n : ℕ). Unit {0}) ns
+  pub each-any : (ns : List ℕ) → Each (λ (n : ℕ). Unit {0}) ns
   each-any [] = tt
   each-any (n ∷ ns) = (tt, each-any ns)
 

@@ -15,5 +15,5 @@ mod Judged
 pub mod Counted
 mod LargerRooms
 mod Shortages
-mod Refusals
+pub mod Refusals
 mod OneMore
