@@ -1,3 +1,4 @@
 pub mod OneAnswer
 pub mod Points
 pub mod Differences
+pub mod Nearest

@@ -8,7 +8,7 @@ use Rattle.distance.specs.declared.DistanceAnswer.the-variants.{Is, Refu
 use Rattle.distance.specs.Distance.{distanceOf}
 
 -- the root of 3
-to-a-corner : distanceOf origin (at (pos 1) (pos 1) (pos 1)) ≡ Is (ofBits binary64 0x3FFB_B67A_E858_4CAA)
+pub to-a-corner : distanceOf origin (at (pos 1) (pos 1) (pos 1)) ≡ Is (ofBits binary64 0x3FFB_B67A_E858_4CAA)
 unfolding distanceOf ofBits
 to-a-corner = refl
 
