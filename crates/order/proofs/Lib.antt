@@ -2,3 +2,4 @@ mod Runs
 mod Counting
 mod Merging
 mod Halves
+pub mod InOrder

@@ -4,3 +4,4 @@ mod Ranking
 mod RunByRun
 mod Storing
 mod OneAnswer
+pub mod InOrder

@@ -12,7 +12,7 @@ use Rattle.search.specs.Cases.{on-test, whether, contrary}
 
 -- ---- known cells
 
-length-put-known : (c g b : ℕ) (k : List Row) → isKnown (find c k) ≡ true → length (put c g b k) ≡ length k
+pub length-put-known : (c g b : ℕ) (k : List Row) → isKnown (find c k) ≡ true → length (put c g b k) ≡ length k
 unfolding find put
 length-put-known c g b [] h = contrary h refl
 length-put-known c g b (e ∷ es) h = whether (eqb c (e .cell)) (λ q. rw q) (λ q. rw q (ap suc (length-put-known c g b es (rw q at h))))

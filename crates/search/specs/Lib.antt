@@ -13,7 +13,7 @@ mod Trails
 pub mod Besides
 mod Judged
 pub mod Counted
-mod LargerRooms
-mod Shortages
+pub mod LargerRooms
+pub mod Shortages
 pub mod Refusals
-mod OneMore
+pub mod OneMore

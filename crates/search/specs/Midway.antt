@@ -2,7 +2,7 @@
 use mathlib.Core.Path.{_≡_}
 use mathlib.Core.Bool.{false}
 use mathlib.Core.List.{List, _∷_}
-use Prim.Native.Nat.{ℕ, suc, _+_}
+use Prim.Native.Nat.{ℕ, suc, _+_, _≤_}
 use lib.Dec.{eqb, ltb}
 use lib.ListN.{length}
 use Rattle.refusal.specs.declared.Room.{Room}
@@ -36,3 +36,19 @@ module _ (P : Problem) where
         → length (s .known) ≡ known → isKnown (find n (s .known)) ≡ false → P .ahead n ≡ refused r → OneMore known waiting Known
     one-waiting : {c g n : ℕ} {ns : List ℕ} {s t : State} → Midway c g s (n ∷ ns) → relax P c g n s ≡ going t
         → length (s .waiting) ≡ waiting → length (t .waiting) ≡ suc waiting → OneMore known waiting Waiting
+
+  -- the same of one place and one neighbour that is looked at there: it takes one more known cell; or, with room for the cell, one more waiting entry
+  pub data MoreAt (known waiting c g n : ℕ) (s : State) : Room → Type 0 where
+    takes-known : {t : State} → relax P c g n s ≡ going t → length (s .known) ≡ known → length (t .known) ≡ suc known → MoreAt known waiting c g n s Known
+    takes-refused : {r : Refusal} → relax P c g n s ≡ stopped r → length (s .known) ≡ known → isKnown (find n (s .known)) ≡ false → P .ahead n ≡ refused r → MoreAt known waiting c g n s Known
+    takes-waiting : {t : State} → relax P c g n s ≡ going t → length (t .known) ≤ known → length (s .waiting) ≡ waiting → length (t .waiting) ≡ suc waiting → MoreAt known waiting c g n s Waiting
+
+-- the first place of that kind: the search in the smaller rooms comes to it, and the one in the larger rooms takes one more there than those hold
+pub record FirstMore (small large : Problem) (room : Room) : Type 0 where
+  pub cell : ℕ
+  pub g : ℕ
+  pub neighbour : ℕ
+  pub others : List ℕ
+  pub place : State
+  pub midway : Midway small cell g place (neighbour ∷ others)
+  pub more : MoreAt large (small .knownRoom) (small .waitingRoom) cell g neighbour place room

@@ -16,11 +16,11 @@ use Rattle.refusal.specs.declared.Refusal.the-variants.{NoRoom}
 use Rattle.lattice.specs.Tables.{Each}
 use Rattle.search.specs.Search.{Problem, Told, is, refused, Entry, State, none-found, Flow, going, find, isClosed, isKnown, plus, pushed, push, lower, tried, relax, step, Ends}
 use Rattle.search.specs.WaitingLaws.{length-insert, KnownCell}
-use Rattle.search.specs.Counted.{closedIn, length-put-new}
+use Rattle.search.specs.Counted.{closedIn, length-put, length-put-new}
 use Rattle.search.specs.Kept.{Holding, Unfound, Lowered, relax-keeps}
 use Rattle.search.specs.Ending.{Roomy, Looking, push-looking, closing-looking, Less, left, Any, step-down, first-roomy}
 use Rattle.search.specs.LargerRooms.{withRooms, fits-larger, short-known, short-waiting, Alike, relax-alike, step-alike}
-use Rattle.search.specs.Midway.{closing, Reached, at-first, popped-on, Midway, opened, looked-on, OneMore, one-known, one-refused, one-waiting}
+use Rattle.search.specs.Midway.{closing, Reached, at-first, popped-on, Midway, opened, looked-on, OneMore, one-known, one-refused, one-waiting, MoreAt, takes-known, takes-refused, takes-waiting, FirstMore}
 use Rattle.search.specs.Shortages.{OtherRefusals, Full, of-known, of-waiting, short-at}
 
 -- ---- no place is overfull
@@ -38,12 +38,12 @@ module _ (P : Problem) (some-known : 1 ≤ P .knownRoom) (some-waiting : 1 ≤ P
       let h = subst (Each (KnownCell (s .known))) waits (w .waits) in
       (closing-looking P s w (e .cell) rest (h .0) (h .1) (omega (arith, ap length waits)) o) .roomy
 
-  looked-roomy : (c g n : ℕ) (s t : State) → Roomy P s → relax P c g n s ≡ going t → Roomy P t
+  pub looked-roomy : (c g n : ℕ) (s t : State) → Roomy P s → relax P c g n s ≡ going t → Roomy P t
   looked-roomy c g n s t w e =
       let closed = closedIn (s .known) in
       (subst (Holding (Looking P closed) Unfound) e (relax-keeps P c g (λ (n : ℕ). Unit {0}) (Looking P closed) (push-looking P closed c g) n s tt (record { roomy = w; same = refl }))) .roomy
 
-  midway-roomy : {c g : ℕ} {s : State} {ns : List ℕ} → Midway P c g s ns → Roomy P s
+  pub midway-roomy : {c g : ℕ} {s : State} {ns : List ℕ} → Midway P c g s ns → Roomy P s
   midway-roomy (opened {s = s} {e = e} {rest = rest} r waits o l q near) = opened-roomy s (reached-roomy r) e rest waits o
   midway-roomy (looked-on {c = c} {g = g} {n = n} {s = s} {t = t} m e) = looked-roomy c g n s t (midway-roomy m) e
 
@@ -72,12 +72,13 @@ module _ (P : Problem) (known waiting : ℕ) (more-known : P .knownRoom < known)
   abbrev Larger : Problem
   Larger = withRooms known waiting P
 
-  abbrev Past : Room → Type 0
-  Past = OneMore Larger (P .knownRoom) (P .waitingRoom)
-
-  module _ (c g n : ℕ) (ns : List ℕ) (s : State) (w : Roomy P s) (m : Midway Larger c g s (n ∷ ns)) (l : Lowered P n (plus g (P .cost c n)) s) where
+  module _ (c g n : ℕ) (s : State) (w : Roomy P s) (l : Lowered P n (plus g (P .cost c n)) s) where
     abbrev t : ℕ
     t = plus g (P .cost c n)
+
+    -- at this place and this neighbour
+    abbrev Past : Room → Type 0
+    Past = MoreAt Larger (P .knownRoom) (P .waitingRoom) c g n s
 
     -- with room for the cell
     relaxed : (isKnown (find n (s .known)) || ltb (length (s .known)) known) ≡ true → relax Larger c g n s ≡ push Larger c n t s (P .ahead n)
@@ -95,19 +96,43 @@ module _ (P : Problem) (known waiting : ℕ) (more-known : P .knownRoom < known)
         fits = rw new (lt-ltb (length (s .known)) known (omega (arith, full, more-known)))
 
         go : (a : Told ℕ) → P .ahead n ≡ a → Past Known
-        go (refused r) a = one-refused m (relaxed fits ∙ ap (push Larger c n t s) a) full new a
-        go (is h) a = one-known m (relaxed fits ∙ ap (push Larger c n t s) a ∙ pushed-on h) full (length-put-new n t c (s .known) new ∙ ap suc full)
+        go (refused r) a = takes-refused (relaxed fits ∙ ap (push Larger c n t s) a) full new a
+        go (is h) a = takes-known (relaxed fits ∙ ap (push Larger c n t s) a ∙ pushed-on h) full (length-put-new n t c (s .known) new ∙ ap suc full)
 
     past-waiting : (isKnown (find n (s .known)) || ltb (length (s .known)) (P .knownRoom)) ≡ true → {h : ℕ} → P .ahead n ≡ is h → length (s .waiting) ≡ P .waitingRoom → Past Waiting
     past-waiting fits {h} a full =
-        one-waiting m (relaxed (fits-larger (isKnown (find n (s .known))) (length (s .known)) (P .knownRoom) known (le-of-lt more-known) fits) ∙ ap (push Larger c n t s) a ∙ pushed-on h) full (length-insert (record { f = plus t h; cell = n; g = t }) (s .waiting) ∙ ap suc full)
+        takes-waiting
+        (relaxed (fits-larger (isKnown (find n (s .known))) (length (s .known)) (P .knownRoom) known (le-of-lt more-known) fits) ∙ ap (push Larger c n t s) a ∙ pushed-on h)
+        (length-put n t c (s .known) (P .knownRoom) (w .fits) fits)
+        full
+        (length-insert (record { f = plus t h; cell = n; g = t }) (s .waiting) ∙ ap suc full)
 
     past : {room : Room} → Full P n s room → Past room
     past (of-known new full) = past-known new (omega (arith, full, w .fits))
     past (of-waiting fits a full) = past-waiting fits a (omega (arith, full, w .few))
 
-  -- a search that ends for want of a room: the larger one needs one more
+  -- a search that ends for want of a room: the larger one takes one more at the place that both come to
+  pub short-first-more : 1 ≤ P .knownRoom → 1 ≤ P .waitingRoom → OtherRefusals P → (room : Room) → Ends P (none-found (NoRoom room)) → FirstMore P (withRooms known waiting P) room
+  short-first-more some-known some-waiting own room e =
+      let k = short-at P own room e in
+      record {
+        cell = k .cell;
+        g = k .g;
+        neighbour = k .neighbour;
+        others = k .others;
+        place = k .place;
+        midway = k .midway;
+        more = past (k .cell) (k .g) (k .neighbour) (k .place) (midway-roomy P some-known some-waiting (k .midway)) (k .lowered) (k .full);
+      }
+
+  at-more : {c g n : ℕ} {s : State} {ns : List ℕ} {room : Room} → Midway Larger c g s (n ∷ ns) → MoreAt Larger (P .knownRoom) (P .waitingRoom) c g n s room
+      → OneMore Larger (P .knownRoom) (P .waitingRoom) room
+  at-more m (takes-known e full longer) = one-known m e full longer
+  at-more m (takes-refused e full new a) = one-refused m e full new a
+  at-more m (takes-waiting e fits full longer) = one-waiting m e full longer
+
+  -- and so it needs one more
   pub short-one-more : 1 ≤ P .knownRoom → 1 ≤ P .waitingRoom → OtherRefusals P → (room : Room) → Ends P (none-found (NoRoom room)) → OneMore (withRooms known waiting P) (P .knownRoom) (P .waitingRoom) room
   short-one-more some-known some-waiting own room e =
-      let k = short-at P own room e in
-      past (k .cell) (k .g) (k .neighbour) (k .others) (k .place) (midway-roomy P some-known some-waiting (k .midway)) (midway-larger P known waiting (le-of-lt more-known) (le-of-lt more-waiting) (k .midway)) (k .lowered) (k .full)
+      let k = short-first-more some-known some-waiting own room e in
+      at-more (midway-larger P known waiting (le-of-lt more-known) (le-of-lt more-waiting) (k .midway)) (k .more)

@@ -12,3 +12,5 @@ pub mod RingSaid
 pub mod OneAnswerRings
 pub mod SearchSaid
 pub mod OneAnswerSearches
+pub mod Limits
+pub mod Parents
