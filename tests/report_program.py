@@ -44,7 +44,7 @@ def start(**streams):
 
 def ended(program):
     """What the program printed and said, and its status."""
-    printed, said = program.communicate(timeout=60)
+    printed, said = program.communicate()
     return (printed or b'').decode(), said.decode(), program.returncode
 
 
@@ -132,6 +132,7 @@ def with_failures(folder):
 
 if not command:
     sys.exit(__doc__)
+signal.alarm(600)  # ends these runs where the program hangs
 with tempfile.TemporaryDirectory() as folder:
     with_files(folder)
     with_failures(folder)

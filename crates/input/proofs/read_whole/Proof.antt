@@ -7,8 +7,8 @@ use borrow.Author.Needs.{needs}
 use lib.ListN.{length, take, drop, length-drop}
 use lib.Seq.{length-take-le}
 use Rattle.io.specs.Counts.{Counts}
-use Rattle.print.proofs.read_whole.Statement.{statement}
-use Rattle.print.proofs.read_whole.Tie as tie
+use Rattle.input.proofs.read_whole.Statement.{statement}
+use Rattle.input.proofs.read_whole.Tie as tie
 
 -- a count of bytes that are there
 counted : (n : ℕ) (l : List ℕ) → n ≤ length l → Counts n l
