@@ -1,7 +1,6 @@
 -- A call of the search that is refused beyond its limit tells that limit, and one expansion more: of any bytes. Assumes nothing.
 use mathlib.Core.Path.{_≡_, refl}
 use mathlib.Core.List.{List}
-use mathlib.Core.Bool.{cond}
 use Prim.Native.Nat.{ℕ}
 use native.Mathlib.Omega.{arith}
 use lib.Dec.{eqb, leb, ltb}
@@ -16,9 +15,7 @@ use Rattle.cell.specs.Bytes.{cellAt, fromBytesOf}
 use Rattle.layer.specs.Layer.{rowsOf, isSound}
 use Rattle.listing.specs.Listing.{roomIn}
 use Rattle.search.specs.Search.{Result, found, none-found}
-use Rattle.search.specs.Plan.{searchOf}
 use Rattle.search.specs.Cases.{whether}
-use Rattle.search.specs.declared.SearchAnswer.{SearchAnswer}
 use Rattle.search.specs.declared.SearchAnswer.the-variants as answer
 use Rattle.search.proofs.Limit.{OneBeyond, limit-one-beyond}
 use Rattle.astar.specs.Answer.{answeredIn}

@@ -177,6 +177,7 @@ parentBy (parity.Refused r) c = coord.Refused r
 parentBy (parity.Is Even) c = coord.At (evenParent (halves c))
 parentBy (parity.Is Odd) c = coord.At (oddParent (halves c))
 
+-- the one lattice point whose child it is: `one-parent` (proofs/OneParent.antt)
 unfoldable pub parentOf : Coord → CoordAnswer
 unfolding parityOf
 parentOf c = parentBy (parityOf c) c
@@ -195,7 +196,7 @@ manhattanBy (parity.Is p) (parity.Refused r) n = number.Refused r
 manhattanBy (parity.Is p) (parity.Is q) n = cond (leb n 2147483647) (number.Is (pos n)) (number.Refused CoordOverflow)
 
 -- "parity of the first, of the second; CoordOverflow when a difference leaves i32 [...] also when the sum passes 2147483647": a difference that leaves i32 is itself
--- above 2147483647, so the sum decides
+-- above 2147483647, so the sum decides: `both-tests` (distance/proofs/Differences.antt)
 unfoldable pub manhattanOf : Coord → Coord → NumberAnswer
 unfolding parityOf manhattan
 manhattanOf a b = manhattanBy (parityOf a) (parityOf b) (manhattan a b)

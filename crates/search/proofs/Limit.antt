@@ -89,7 +89,10 @@ module _ (s e : Cell) (known waiting limit rule : ℕ) (rows : List Row) where
   abbrev plan : Problem
   plan = planOf s e known waiting limit rule rows
 
-  plan-within : (k : ℕ) → Keeping (λ (t : State). t .count ≤ limit) (Any plan) (AtLimit limit) (run plan k (begin plan (plan .ahead (plan .start))))
+  abbrev Limited : Flow → Type 0
+  Limited = Keeping (λ (t : State). t .count ≤ limit) (Any plan) (AtLimit limit)
+
+  plan-within : (k : ℕ) → Limited (run plan k (begin plan (plan .ahead (plan .start))))
   unfolding planOf
   plan-within =
       run-within plan
@@ -101,7 +104,7 @@ module _ (s e : Cell) (known waiting limit rule : ℕ) (rows : List Row) where
       (λ x f. absurd (let z : _≡_ {A = ℕ} 0 1 = cc in omega arith))
 
   module _ (x : Spent) where
-    flow-limit : (f : Flow) → Keeping (λ (t : State). t .count ≤ limit) (Any plan) (AtLimit limit) f → resultOf f ≡ none-found (SearchLimitExceeded x) → OneBeyond limit x
+    flow-limit : (f : Flow) → Limited f → resultOf f ≡ none-found (SearchLimitExceeded x) → OneBeyond limit x
     flow-limit (going t) h f = absurd (let z : _≡_ {A = ℕ} 0 1 = cc in omega arith)
     flow-limit (done (found cells cost expansions)) h f = absurd (let z : _≡_ {A = ℕ} 0 1 = cc in omega arith)
     flow-limit (done (none-found r)) h f = h x (let same : r ≡ SearchLimitExceeded x = cc in same)

@@ -1,11 +1,11 @@
 -- "NoRoom is given exactly where the plain search would need one more", both ways. `no-room-first-more`: a search ends with NoRoom of a room if and only if it comes to a place at which the search
 -- in larger rooms takes one more than that room holds. `no-room-needed`: and it ends with NoRoom of one of the two if and only if the search in larger rooms anywhere needs one more. Assumes nothing.
-use mathlib.Core.Path.{_≡_, refl, sym, ap, subst, _∙_}
+use mathlib.Core.Path.{_≡_, refl, sym, ap, _∙_}
 use mathlib.Core.Logic.{_⊎_, inl, inr, _↔_}
-use mathlib.Core.Bool.{Bool, true, false, _||_, cond}
+use mathlib.Core.Bool.{true, false, _||_}
 use mathlib.Core.List.{List, [], _∷_}
 use mathlib.Core.Option.{Option}
-use Prim.Native.Nat.{ℕ, suc, _+_, _≤_, _<_}
+use Prim.Native.Nat.{ℕ, _+_, _≤_, _<_}
 use native.Mathlib.Nat.{le-of-lt}
 use native.Mathlib.Omega.{arith}
 use lib.Dec.{eqb, ltb}
@@ -26,7 +26,6 @@ use Rattle.layer.specs.Layer as layer
 use Rattle.search.specs.Search.{Problem, Told, is, refused, Row, Entry, State, Result, found, none-found, Flow, going, done, stopped, andThen, find, isClosed, isKnown, gOf, plus, less, pushed, push, lower, tried, relax, relaxAll, around, entered, popped, next, step, run, begin, Ends}
 use Rattle.search.specs.Plan.{planOf, popsFor, resultOf, resultBy, searchOf}
 use Rattle.search.specs.Cases.{whether, neither}
-use Rattle.search.specs.WaitingLaws.{length-insert}
 use Rattle.search.specs.Counted.{length-put-known, length-put-new}
 use Rattle.search.specs.Ending.{Roomy, run-split, ends, result-is}
 use Rattle.search.specs.Kept.{Lowered}
@@ -319,3 +318,8 @@ module _ (s e : Cell) (known waiting more-known more-waiting limit rule : ℕ) (
 pub rooms-short : (searchOf (plain 0 0 0) (plain 2 2 0) 1 1 100 0 [] ≡ none-found (NoRoom Known)) × (searchOf (plain 0 0 0) (plain 2 2 0) 3 1 100 0 [] ≡ none-found (NoRoom Waiting))
 unfolding searchOf packed rawOf
 rooms-short = (refl, refl)
+
+-- in rooms of 3 and 3 that search needs both: one cell more than 1 at the first neighbour, and one entry more than 1 at the second. So of two rooms that are needed, the first place says which is named
+pub entry-needed-too : OneMore (planOf (plain 0 0 0) (plain 2 2 0) 3 3 100 0 []) 1 1 Waiting
+unfolding planOf searchOf packed rawOf relax step
+entry-needed-too = one-waiting (looked-on (opened (at-first refl) refl refl refl refl refl) refl) refl refl refl

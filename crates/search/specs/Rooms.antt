@@ -1,6 +1,6 @@
 -- "NoRoom is given exactly where the plain search would need one more." A search that ends for another reason ends with the same result in any larger rooms: `same-in-larger-rooms`.
 -- And one that ends with NoRoom names the room of known cells or that of waiting entries, and the search in larger rooms comes to a place where it needs one more than that room holds:
--- `no-room-one-more`, in the words of Midway.antt. Assumes nothing.
+-- `no-room-one-more`, in the words of Midway.antt. The other way round: proofs/RoomNeeded.antt. Assumes nothing.
 use mathlib.Core.Path.{_≡_, refl, ap, _∙_}
 use mathlib.Core.Bool.{Bool, true, false, cond}
 use mathlib.Core.List.{List, [], _∷_}

@@ -3,14 +3,14 @@
 use mathlib.Core.Path.{_≡_, refl, sym, ap, subst, _∙_}
 use mathlib.Core.Bool.{Bool, true, false, cond}
 use mathlib.Core.List.{List, [], _∷_, _++_, flatMap, List·Memᴰ, List·Memᴰ·head, List·Memᴰ·tail}
-use Prim.Native.Nat.{ℕ, zero, suc, _*_, _<_}
+use Prim.Native.Nat.{ℕ, suc, _*_, _<_}
 use native.Mathlib.Omega.{arith}
 use contract.Lifetimes.{Lfts}
 use denote.Triple.Clauses.{AtExit}
 use borrow.Fn.Kinds.{Dens, resT, endedOf}
 use lib.Dec.{leb}
-use lib.IntN.{ℤ}
-use lib.ListN.{length, take, drop}
+use lib.IntN.{ℤ, pos}
+use lib.ListN.{length, take, drop, replicate}
 use Rattle.refusal.specs.declared.Coord.{Coord}
 use Rattle.refusal.specs.declared.Room.the-variants.{Output}
 use Rattle.refusal.specs.declared.Refusal.{Refusal}
@@ -19,7 +19,7 @@ use Rattle.refusal.specs.declared.Outcome.{Outcome}
 use Rattle.refusal.specs.declared.Outcome.the-variants as outcome
 use Rattle.lattice.specs.declared.CoordAnswer.{CoordAnswer}
 use Rattle.lattice.specs.declared.CoordAnswer.the-variants as coord
-use Rattle.lattice.specs.Lattice.{at, childrenOf, parentOf}
+use Rattle.lattice.specs.Lattice.{at, isLatticePoint, parityOf, childSteps, childPlaces, hasChildRoom, childrenOf, parentOf}
 use Rattle.lattice.proofs.OneParent.{told-among-children}
 use Rattle.told.specs.declared.RefusalTold.{RefusalTold}
 use Rattle.told.specs.declared.CoordTold.{CoordTold}
@@ -95,3 +95,9 @@ listed-under-parent κs a z e μs b y f post filling told answers same-x same-y 
     let out = b .1 .1 .1 .0 .now in
     listed c (at (z .x) (z .y) (z .z)) out (f .1 .1 .1 .0 .now) y (place-told (parentOf c) z post told)
     (filling ∙ (λ i. childrenTold (at (same-x i) (same-y i) (same-z i)) out)) answers
+
+-- the parent of (3, 3, 1) is told as (1, 1, 1), and (3, 3, 1) is the sixth place that is listed for it
+pub sixth-listed : (ofCoord (parentOf (at (pos 3) (pos 3) (pos 1))) ≡ ofCoord (coord.At (at (pos 1) (pos 1) (pos 1))))
+    × (take 3 (drop 15 (childrenTold (at (pos 1) (pos 1) (pos 1)) (replicate 24 (pos 0)) .out)) ≡ pos 3 ∷ pos 3 ∷ pos 1 ∷ [])
+unfolding childrenTold childrenOf parentOf parityOf isLatticePoint hasChildRoom childPlaces childSteps flatMap
+sixth-listed = (refl, refl)
