@@ -1,1 +1,3 @@
 pub mod Points
+pub mod Costs
+pub mod CostsKept

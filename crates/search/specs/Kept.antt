@@ -43,7 +43,7 @@ pub record HasRoom (P : Problem) (n : ℕ) (s : State) : Type 0 where
   pub waiting-room : ltb (length (s .waiting)) (P .waitingRoom) ≡ true
 
 module _ (P : Problem) (c g : ℕ) (Near : ℕ → Type 0) (Holds : State → Type 0)
-    (pushes : (n h : ℕ) (s : State) → Near n → Holds s → Lowered P n (plus g (P .cost c n)) s → HasRoom P n s → Holds (pushed P c n (plus g (P .cost c n)) h s)) where
+    (pushes : (n h : ℕ) (s : State) → P .ahead n ≡ is h → Near n → Holds s → Lowered P n (plus g (P .cost c n)) s → HasRoom P n s → Holds (pushed P c n (plus g (P .cost c n)) h s)) where
   abbrev pub Keeps : Flow → Type 0
   Keeps = Holding Holds Unfound
 
@@ -55,12 +55,12 @@ module _ (P : Problem) (c g : ℕ) (Near : ℕ → Type 0) (Holds : State → Ty
     abbrev k : Option Row
     k = find n (s .known)
 
-    push-keeps : Lowered P n t s → (isKnown k || ltb (length (s .known)) (P .knownRoom)) ≡ true → (a : Told ℕ) → Keeps (push P c n t s a)
-    push-keeps l room (refused r) = tt
-    push-keeps l room (is a) =
+    push-keeps : Lowered P n t s → (isKnown k || ltb (length (s .known)) (P .knownRoom)) ≡ true → (a : Told ℕ) → P .ahead n ≡ a → Keeps (push P c n t s a)
+    push-keeps l room (refused r) e = tt
+    push-keeps l room (is a) e =
         on-test Keeps (ltb (length (s .waiting)) (P .waitingRoom)) (going (pushed P c n t a s)) (stopped (NoRoom Waiting))
-        (λ e. pushes n a s near h l (record { known-room = room; waiting-room = e }))
-        (λ e. tt)
+        (λ q. pushes n a s e near h l (record { known-room = room; waiting-room = q }))
+        (λ q. tt)
 
     pub relax-keeps : Keeps (relax P c g n s)
     unfolding relax tried lower
@@ -68,7 +68,7 @@ module _ (P : Problem) (c g : ℕ) (Near : ℕ → Type 0) (Holds : State → Ty
         on-test Keeps (isClosed k || P .shut n) (going s) (cond (less t (gOf k)) (lower P c n t s k) (going s)) (λ e. h)
         (λ e. on-test Keeps (less t (gOf k)) (lower P c n t s k) (going s)
         (λ f. on-test Keeps (isKnown k || ltb (length (s .known)) (P .knownRoom)) (push P c n t s (P .ahead n)) (stopped (NoRoom Known))
-        (λ room. let o = neither (isClosed k) (P .shut n) e in push-keeps (record { not-closed = o .0; not-shut = o .1; falls = f }) room (P .ahead n))
+        (λ room. let o = neither (isClosed k) (P .shut n) e in push-keeps (record { not-closed = o .0; not-shut = o .1; falls = f }) room (P .ahead n) refl)
         (λ room. tt))
         (λ f. h))
 

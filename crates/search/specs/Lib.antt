@@ -17,3 +17,4 @@ mod LargerRooms
 mod Shortages
 mod Refusals
 mod OneMore
+pub mod Costs
