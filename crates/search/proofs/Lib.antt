@@ -2,3 +2,4 @@ pub mod Points
 pub mod Costs
 pub mod CostsKept
 pub mod FirstOut
+pub mod StepDistances
