@@ -4,7 +4,6 @@ use mathlib.Core.Bool.{false}
 use mathlib.Core.List.{List, [], _∷_}
 use Prim.Native.Nat.{ℕ, _*_, _≤_, _<_}
 use native.Mathlib.Omega.{arith}
-use lib.Ieee.{nanBits}
 use lib.ListN.{length, replicate, drop}
 use Rattle.refusal.specs.declared.Cell.{Cell}
 use Rattle.refusal.specs.declared.Refusal.{Refusal}
@@ -25,14 +24,16 @@ use Rattle.rows.proofs.Appended.{cell-in, appended-in, cleared-in}
 use Rattle.search.specs.Search.{Problem, Told, is, refused, row, state, going, find, put, insert, begin}
 use Rattle.search.specs.Plan.{planOf, distanceBits}
 use Rattle.search.specs.Counted.{closedIn}
+use Rattle.search.specs.Costs.{Cost}
+use Rattle.search.proofs.Costs.{cost-small, ahead-cost}
 use Rattle.expansion.specs.declared.Plan.{Plan}
 use Rattle.expansion.specs.declared.Sizes.{Sizes}
 use Rattle.expansion.specs.declared.Step.the-variants as step
-use Rattle.expansion.specs.State.{entriesIn, problemOf, Cost, Good, Meets}
+use Rattle.expansion.specs.State.{entriesIn, problemOf, Good, Meets}
 use Rattle.expansion.specs.Bytes.{sizesOf, entryTo, Rooms}
 use Rattle.expansion.specs.BytesKept.{length-append-in}
 use Rattle.expansion.specs.StateLaws.{Entered, entered-entries, entered-good}
-use Rattle.expansion.specs.Simulates.{Simulates, ahead-cost, bytes-appended}
+use Rattle.expansion.specs.Simulates.{Simulates, bytes-appended}
 use Rattle.astar.specs.Bytes.{begunIn, beginIn}
 
 -- ---- what the code wrote
@@ -86,10 +87,6 @@ bytes-cleared w room b = bytes-append (replicate (4 * room) 0) (drop (4 * room) 
 
 -- ---- what they hold
 
-no-cost : Cost 0
-unfolding nanBits
-no-cost = record { positive = omega arith; number = refl }
-
 abbrev none-known : Sizes
 none-known = sizesOf 0 0 0
 
@@ -122,7 +119,7 @@ module _ (p : Plan) (flags : List ℕ) (count : ℕ) where
         record {
           good = empty-good p w h rows (rooms .waits .small) (rooms .size);
           f-cost = x-cost;
-          g-cost = no-cost;
+          g-cost = cost-small 0 (omega arith);
           words = words;
           unclosed = refl;
           room = rooms .waits .least;

@@ -1,4 +1,5 @@
--- Demand 2 of distances, in one sentence: `distance-nearest`. A distance that is answered is the f64 nearest to the true square root of the sum of the squares, 0 as well. Assumes nothing.
+-- Demand 2 of distances, in one sentence: `distance-nearest`. A distance that is answered is the f64 nearest to the true square root of `squaredDistance`, the sum of the squares rounded
+-- in source order; where that is 0, it is +0. Assumes nothing.
 use mathlib.Core.Path.{_≡_, refl, sym, _∙_, subst}
 use mathlib.Core.Bool.{Bool, true, false}
 use Prim.Native.Nat.{ℕ, zero, suc, _+_, _*_, _≤_, _<_}
@@ -50,7 +51,7 @@ whole-root x (suc n) v most =
 
 -- ---- the distance
 
--- THE THEOREM: a distance that is answered is the f64 nearest to the square root of the sum of the squares, which is a whole number
+-- THE THEOREM: a distance that is answered is the f64 nearest to the square root of the rounded sum of the squares, which is a whole number
 pub distance-nearest : (a b : Coord) (d : Float) → distanceOf a b ≡ Is d → NearestRoot (squaredDistance a b) d
 unfolding distanceOf
 distance-nearest a b d h = by (parityOf a) (parityOf b) refl refl h

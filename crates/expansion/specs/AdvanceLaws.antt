@@ -6,21 +6,21 @@ use mathlib.Core.Option.{none, some}
 use Prim.Native.Nat.{ℕ, suc, _+_, _-_, _≤_, _<_}
 use native.Mathlib.Numerals.{add-one}
 use native.Mathlib.Omega.{arith}
-use lib.Dec.{eqb}
 use Rattle.refusal.specs.declared.Cell.{Cell}
 use Rattle.refusal.specs.declared.Refusal.the-variants.{NoPathFound}
 use Rattle.refusal.specs.Table.{rawOf}
-use Rattle.float.specs.Laws.{either}
 use Rattle.lattice.specs.Tables.{Each}
 use Rattle.waiting.specs.declared.Entry as waited
 use Rattle.waiting.specs.Sorted.{sortedKeys}
 use Rattle.waiting.specs.Steps.{Popped}
 use Rattle.waiting.specs.Laws.{empty-keys}
 use Rattle.known.specs.Known.{cellIn}
-use Rattle.search.specs.Search.{Problem, Row, Entry, State, state, going, find, row, close, isClosed, isKnown, gOf, entered, popped, next, step}
+use Rattle.search.specs.Search.{Problem, Row, Entry, State, state, going, find, close, isClosed, isKnown, gOf, entered, popped, next, step}
 use Rattle.search.specs.Plan.{planOf}
 use Rattle.search.specs.Counted.{closedIn, closed-at-most, closed-close}
 use Rattle.search.specs.WaitingLaws.{KnownCell, waits-close}
+use Rattle.search.specs.Costs.{CostRow}
+use Rattle.search.proofs.CostsKept.{each-close}
 use Rattle.rows.specs.Rows.{rowIn, rowsIn, Changed}
 use Rattle.rows.specs.RowsLaws.{length-rows}
 use Rattle.expansion.specs.declared.Plan.{Plan}
@@ -28,7 +28,7 @@ use Rattle.expansion.specs.declared.Sizes.{Sizes}
 use Rattle.expansion.specs.declared.Step.{Step}
 use Rattle.expansion.specs.declared.Step.the-variants as steps
 use Rattle.expansion.specs.State.{entryWith, entriesIn, stateIn, problemOf, Good, Meets}
-use Rattle.expansion.specs.StateLaws.{entryFrom, entries-popped, CostRow, costs-each, each-costs}
+use Rattle.expansion.specs.StateLaws.{entryFrom, entries-popped, costs-each, each-costs}
 use Rattle.expansion.specs.Bytes.{sizesOf}
 
 -- ---- the cases of the definition
@@ -41,11 +41,6 @@ module _ (P : Problem) (c : ℕ) (rest : List Entry) (s : State) where
   popped-open : isClosed (find c (s .known)) ≡ false → popped P c rest s ≡ entered P c (gOf (find c (s .known))) (state (close c (s .known)) rest (s .count + 1))
   unfolding popped
   popped-open e = rw e
-
-each-close : (c : ℕ) (k : List Row) → Each CostRow k → Each CostRow (close c k)
-unfolding close
-each-close c [] h = tt
-each-close c (e ∷ es) h = either (Each CostRow) (eqb c (e .cell)) (row (e .cell) (e .g) (e .before) true ∷ es) (e ∷ close c es) h (h .0, each-close c es (h .1))
 
 -- ---- the cases of the code
 

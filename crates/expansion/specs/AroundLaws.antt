@@ -62,4 +62,4 @@ stand-rows c w room n i h = let place : i ≡ 0 + i = omega arith in let r = sta
 pub relax-stands : (P : Problem) (at c g n : ℕ) (s : State) → Stands c at (s .known) → Holding (λ (t : State). Stands c at (t .known)) Unfound (relax P c g n s)
 relax-stands P at c g n s h =
     relax-keeps P c g (λ (m : ℕ). Unit {0}) (λ (t : State). Stands c at (t .known))
-    (λ m x t near i lowered room. stands-put c m (plus g (P .cost c m)) c at (t .known) i) n s tt h
+    (λ m x t estimate near i lowered room. stands-put c m (plus g (P .cost c m)) c at (t .known) i) n s tt h

@@ -2,12 +2,11 @@
 use mathlib.Core.Path.{_≡_, refl, sym, ap, _∙_}
 use mathlib.Core.Bool.{Bool, true, false, cond}
 use mathlib.Core.List.{List}
-use Prim.Native.Nat.{ℕ, _+_, _-_, _%_, _≤_, _<_}
+use Prim.Native.Nat.{ℕ, _+_, _-_, _≤_, _<_}
 use native.Mathlib.Omega.{arith}
 use lib.Dec.{ltb, eqb}
-use lib.Ieee.{binary64, toBits, top, hid, ones}
-use lib.Ieee.Bits.{nanBits-above}
-use borrow.Author.Tests.{lt-ltb, le-ltb, ltb-false, ne-eqb}
+use lib.Ieee.{binary64, toBits}
+use borrow.Author.Tests.{lt-ltb, le-ltb, ne-eqb}
 use Rattle.refusal.specs.declared.Cell.{Cell}
 use Rattle.refusal.specs.declared.Refusal.{Refusal}
 use Rattle.refusal.specs.declared.Refusal.the-variants.{SearchLimitExceeded, NoRoom, NoPathFound, BadWorkspace}
@@ -31,24 +30,7 @@ use Rattle.search.specs.Plan.{distanceBits}
 use Rattle.expansion.specs.declared.Plan.{Plan}
 use Rattle.expansion.specs.declared.Sizes.{Sizes}
 use Rattle.expansion.specs.declared.Step.the-variants as step
-use Rattle.expansion.specs.State.{Cost}
 use Rattle.expansion.specs.Bytes.{sizesOf, entryTo, After, isNoCost, pushedIn, renewIn, freshIn, knownIn, newIn, triedIn, relaxIn, aroundIn, enteredIn, poppedIn, advanceIn, isOpen, dueIn}
-
--- ---- a g that was tested
-
-pub cost-small : (g : ℕ) → g ≤ 0x7FF0_0000_0000_0000 → Cost g
-unfolding top hid ones
-cost-small g small =
-    let same : g % 9223372036854775808 ≡ g = omega arith in
-    record { positive = omega arith; number = nanBits-above binary64 g ∙ le-ltb 0x7FF0_0000_0000_0000 (g % 9223372036854775808) (omega arith) }
-
-pub small-cost : (g : ℕ) → Cost g → g ≤ 0x7FF0_0000_0000_0000
-unfolding top hid ones
-small-cost g cost =
-    let positive = cost .positive in
-    let same : g % 9223372036854775808 ≡ g = omega arith in
-    let most : g % 9223372036854775808 ≤ 0x7FF0_0000_0000_0000 = ltb-false 0x7FF0_0000_0000_0000 (g % 9223372036854775808) (sym (nanBits-above binary64 g) ∙ cost .number) in
-    omega arith
 
 -- ---- the cases of a push
 

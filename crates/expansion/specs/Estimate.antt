@@ -1,9 +1,9 @@
 -- The heuristic as the code has it. Definitions only. Assumes nothing.
 use Prim.Native.Nat.{ℕ}
 use Rattle.search.specs.Search.{Told, is, refused}
+use Rattle.search.specs.Costs.{Cost}
 use Rattle.expansion.specs.declared.Estimate.{Estimate}
 use Rattle.expansion.specs.declared.Estimate.the-variants as estimate
-use Rattle.expansion.specs.State.{Cost}
 
 abbrev pub toldAhead : Estimate → Told ℕ
 toldAhead (estimate.Bits b) = is b

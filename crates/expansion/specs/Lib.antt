@@ -5,7 +5,6 @@ pub mod BytesLaws
 pub mod BytesKept
 pub mod BytesLoops
 pub mod RunsAdd
-pub mod CostLaws
 pub mod StateLaws
 pub mod RelaxLaws
 pub mod AroundLaws

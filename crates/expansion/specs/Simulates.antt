@@ -19,9 +19,6 @@ use Rattle.lattice.specs.declared.ParityAnswer.the-variants as parity
 use Rattle.lattice.specs.Lattice.{parityOf, neighborPlaces, hasNeighborRoom}
 use Rattle.lattice.specs.Laws.{room-fits}
 use Rattle.lattice.specs.Tables.{Each}
-use Rattle.distance.specs.declared.DistanceAnswer.{DistanceAnswer}
-use Rattle.distance.specs.declared.DistanceAnswer.the-variants as distance
-use Rattle.distance.specs.Distance.{distanceOf}
 use Rattle.cell.specs.Cell.{frameOf, resolutionOf, coordOf, plainAt, nearCells, neighborsIn, neighborsBy, neighborsOf, distanceCells}
 use Rattle.cell.specs.Laws.{Words, fields-packed}
 use Rattle.words.specs.Word.{little, Bytes}
@@ -48,12 +45,13 @@ use Rattle.search.specs.Plan.{distanceBits}
 use Rattle.search.specs.Cases.{on-test}
 use Rattle.search.specs.Kept.{Holding, Unfound}
 use Rattle.search.specs.Counted.{closed-at-most}
+use Rattle.search.specs.Costs.{Cost}
+use Rattle.search.proofs.Costs.{cost-order, cost-small, small-cost, plus-cost, step-cost, ahead-cost}
 use Rattle.expansion.specs.declared.Plan.{Plan}
 use Rattle.expansion.specs.declared.Sizes.{Sizes}
 use Rattle.expansion.specs.declared.Step.{Step}
 use Rattle.expansion.specs.declared.Step.the-variants as steps
-use Rattle.expansion.specs.State.{stateIn, problemOf, flowIn, Cost, Good, GoodStep, Meets, RanTo, Ran}
-use Rattle.expansion.specs.CostLaws.{cost-order, plus-cost, step-cost, distance-cost}
+use Rattle.expansion.specs.State.{stateIn, problemOf, flowIn, Good, GoodStep, Meets, RanTo, Ran}
 use Rattle.expansion.specs.StateLaws.{entered-meets, refused-meets, full-meets, waiting-room}
 use Rattle.expansion.specs.RelaxLaws.{closed-meets, shut-meets, worse-meets, lowered-meets, added-meets, crowded-meets, Paid, relaxed}
 use Rattle.expansion.specs.AroundLaws.{Stands, rows-stand, stand-rows, relax-stands}
@@ -61,7 +59,6 @@ use Rattle.expansion.specs.EnterLaws.{spent-meets, arrived-meets, alone-
 use Rattle.expansion.specs.AdvanceLaws as advancing
 use Rattle.expansion.specs.RunLaws.{Running, run-start, run-next, run-ends, run-pauses}
 use Rattle.expansion.specs.Bytes.{sizesOf, entryTo, After, isNoCost, Fits, pushedIn, renewIn, freshIn, knownIn, newIn, triedIn, relaxIn, andThenIn, relaxAllIn, aroundIn, enteredIn, poppedIn, advanceIn, leftIn, enough, dueIn, pausedIn, popsIn, runIn}
-use Rattle.expansion.specs.BytesLaws.{cost-small, small-cost}
 use Rattle.expansion.specs.BytesKept.{left-enough, advance-forward, Popped as Went}
 use Rattle.expansion.specs.BytesLoops.{run-pops, both-true}
 
@@ -108,14 +105,6 @@ near-words c e = by-parity (parityOf (coordOf c)) e
     by-parity : (a : ParityAnswer) → neighborsBy a c .outcome ≡ outcome.Answered → Each Words (neighborsBy a c .cells)
     by-parity (parity.Refused r) f = absurd (let z : _≡_ {A = ℕ} 0 1 = cc in omega arith)
     by-parity (parity.Is q) f = by-room (hasNeighborRoom (coordOf c)) refl f
-
--- a distance is a cost
-pub ahead-cost : (a b : Cell) (x : ℕ) → is x ≡ distanceBits (distanceCells a b) → Cost x
-ahead-cost a b x e = by-answer (distanceOf (coordOf a) (coordOf b)) refl e
-  where
-    by-answer : (d : DistanceAnswer) → distanceOf (coordOf a) (coordOf b) ≡ d → is x ≡ distanceBits d → Cost x
-    by-answer (distance.Is d) f g = let same : toBits binary64 d ≡ x = cc in subst Cost same (distance-cost (coordOf a) (coordOf b) d f)
-    by-answer (distance.Refused r) f g = absurd (let z : _≡_ {A = ℕ} 0 1 = cc in omega arith)
 
 -- the bytes that hold a state have sizes within the rooms
 pub good-fits : {p : Plan} {w h : List ℕ} {z : Sizes} → Good p w h z → Fits p w h z

@@ -1,10 +1,9 @@
 -- The state of a search, read off its two buffers: the rows of the known cells in one, the waiting entries in the other, and beside them three numbers. What each function of the code
 -- leaves and answers is a step of the definition from the state that the bytes held. Definitions only. Assumes nothing.
 use mathlib.Core.Path.{_≡_}
-use mathlib.Core.Bool.{true, false}
+use mathlib.Core.Bool.{true}
 use mathlib.Core.List.{List, map}
-use Prim.Native.Nat.{ℕ, _*_, _^_, _≤_, _<_}
-use lib.Ieee.{binary64, nanBits}
+use Prim.Native.Nat.{ℕ, _*_, _≤_, _<_}
 use lib.ListN.{length}
 use Rattle.refusal.specs.Table.{rawOf}
 use Rattle.lattice.specs.Tables.{Each}
@@ -14,6 +13,7 @@ use Rattle.waiting.specs.Sorted.{sortedKeys}
 use Rattle.layer.specs.Layer.{rowsOf}
 use Rattle.search.specs.Search.{Problem, Entry, State, state, Flow, going, done, stopped, arrived, run, find, isKnown}
 use Rattle.search.specs.Plan.{planOf}
+use Rattle.search.specs.Costs.{Cost}
 use Rattle.search.specs.Counted.{closedIn}
 use Rattle.search.specs.WaitingLaws.{KnownCell}
 use Rattle.rows.specs.Rows.{gIn, rowsIn, Rows}
@@ -40,11 +40,6 @@ entriesIn h n = map entryWith (sortedKeys h n)
 -- w has the known cells, h the waiting entries
 abbrev pub stateIn : Plan → List ℕ → List ℕ → Sizes → State
 stateIn p w h z = state (rowsIn w (p .known) (z .known)) (entriesIn h (z .waiting)) (z .count)
-
--- the bits of a cost: no NaN and nothing negative
-pub record Cost (bits : ℕ) : Type 0 where
-  pub positive : bits < 2 ^ 63
-  pub number : nanBits binary64 bits ≡ false
 
 -- two buffers that hold a state of the search with these rooms
 pub record Good (p : Plan) (w h : List ℕ) (z : Sizes) : Type 0 where

@@ -5,7 +5,7 @@ use mathlib.Core.List.{List, [], _∷_, map}
 use Prim.Native.Nat.{ℕ, zero, suc, _+_, _-_, _*_, _/_, _%_, _^_, _≤_, _<_}
 use native.Mathlib.Nat.{add-assoc, add-mul, mul-assoc, div-add-mod'}
 use native.Mathlib.Omega.{arith}
-use lib.Dec.{leb, ltb, eqb}
+use lib.Dec.{leb, ltb}
 use lib.ListN.{length, length-map}
 use borrow.Author.Tests.{lt-ltb, le-ltb}
 use Rattle.refusal.specs.declared.Cell.{Cell}
@@ -13,7 +13,6 @@ use Rattle.refusal.specs.declared.Refusal.{Refusal}
 use Rattle.refusal.specs.declared.Refusal.the-variants.{NoRoom}
 use Rattle.refusal.specs.declared.Room.the-variants.{Waiting}
 use Rattle.refusal.specs.Table.{rawOf}
-use Rattle.float.specs.Laws.{either}
 use Rattle.lattice.specs.Tables.{Each}
 use Rattle.cell.specs.Laws.{Words}
 use Rattle.waiting.specs.declared.Entry as waited
@@ -21,16 +20,18 @@ use Rattle.waiting.specs.Entries.{entryOf, EntryWords}
 use Rattle.waiting.specs.Sorted.{insertKey, sortedKeys}
 use Rattle.waiting.specs.Steps.{Pushed, Popped}
 use Rattle.waiting.specs.Laws.{length-sortedKeys, key-words}
-use Rattle.search.specs.Search.{Problem, Told, is, refused, Row, Entry, state, Flow, going, stopped, find, row, put, isClosed, plus, keyOf, insert, pushed, push}
+use Rattle.search.specs.Search.{Problem, Told, is, refused, Row, Entry, state, Flow, going, stopped, find, put, isClosed, plus, keyOf, insert, pushed, push}
 use Rattle.search.specs.Counted.{closedIn, closed-put}
 use Rattle.search.specs.WaitingLaws.{KnownCell, waits-put}
+use Rattle.search.specs.Costs.{Cost, CostRow}
+use Rattle.search.proofs.CostsKept.{each-put}
 use Rattle.rows.specs.Rows.{gIn, rowIn, rowsFrom, rowsIn, Changed}
 use Rattle.known.specs.Laws.{cell-words}
 use Rattle.search.specs.Plan.{planOf}
 use Rattle.expansion.specs.declared.Plan.{Plan}
 use Rattle.expansion.specs.declared.Sizes.{Sizes}
 use Rattle.expansion.specs.declared.Step.the-variants as step
-use Rattle.expansion.specs.State.{entryWith, entriesIn, stateIn, problemOf, Cost, Good, Meets}
+use Rattle.expansion.specs.State.{entryWith, entriesIn, stateIn, problemOf, Good, Meets}
 use Rattle.expansion.specs.Bytes.{sizesOf, entryTo}
 
 -- ---- waiting entries
@@ -91,14 +92,6 @@ module _ (Q : Row → Type 0) where
   from-each r i zero h j below = absurd (omega arith)
   from-each r i (suc n) h zero below = let place : i ≡ i + 0 = omega arith in subst (λ (k : ℕ). Q (r k)) place (h .0)
   from-each r i (suc n) h (suc j) below = let place : suc i + j ≡ i + suc j = omega arith in subst (λ (k : ℕ). Q (r k)) place (from-each r (suc i) n (h .1) j (omega arith))
-
-  each-put : (c g b : ℕ) (k : List Row) → Each Q k → Q (row c g b false) → Each Q (put c g b k)
-  unfolding put
-  each-put c g b [] h q = (q, tt)
-  each-put c g b (e ∷ es) h q = either (Each Q) (eqb c (e .cell)) (row c g b false ∷ es) (e ∷ put c g b es) (q, h .1) (h .0, each-put c g b es (h .1) q)
-
-abbrev pub CostRow : Row → Type 0
-CostRow r = Cost (r .g)
 
 pub costs-each : (w : List ℕ) (room n : ℕ) → ((i : ℕ) → i < n → Cost (gIn w room i)) → Each CostRow (rowsIn w room n)
 unfolding rowsIn rowIn

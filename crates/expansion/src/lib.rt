@@ -9,7 +9,7 @@ ghost use Rattle.layer.specs.Layer.{isSound, rowsOf};
 ghost use Rattle.route.specs.Route.{costBetween};
 ghost use Rattle.search.specs.Search.{plus};
 ghost use Rattle.search.specs.Plan.{distanceBits};
-ghost use Rattle.expansion.specs.State.{Cost};
+ghost use Rattle.search.specs.Costs.{Cost};
 ghost use Rattle.expansion.specs.Estimate.{toldAhead, SoundAhead};
 ghost use Rattle.expansion.specs.Bytes.{Rooms, Fits, renewIn, freshIn, knownIn, newIn, relaxIn, relaxAllIn, enteredIn, advanceIn, isSized, enough, dueIn, pausedIn, popsIn, runIn, resumeIn};
 use distance::DistanceAnswer;

@@ -1,3 +1,5 @@
 pub mod Points
-pub mod Limit
-pub mod RoomNeeded
+pub mod Costs
+pub mod CostsKept
+pub mod FirstOut
+pub mod StepDistances

@@ -1,16 +1,20 @@
 -- The known points of the scope document that are searches: "(0,0,0) to (2,2,0), plain, open: route through (1,1,1), cost 0x400BB67AE8584CAA, 3 expansions; limit 2 refuses with 3, 2;
 -- limit 0 with 1, 0." No flags are kept, so both rules are open. Assumes nothing.
 use mathlib.Core.Path.{_≡_, refl}
-use mathlib.Core.List.{[], _∷_}
+use mathlib.Core.Bool.{true}
+use mathlib.Core.List.{List, [], _∷_}
 use Prim.Native.Nat.{ℕ}
-use lib.IntN.{pos}
+use lib.Dec.{ltb}
+use lib.IntN.{ℤ, pos, negsuc}
+use lib.ListN.{take}
 use Rattle.refusal.specs.declared.Cell.{Cell}
 use Rattle.refusal.specs.declared.Refusal.the-variants.{SearchLimitExceeded}
 use Rattle.refusal.specs.Table.{rawOf}
 use Rattle.lattice.specs.Lattice.{at}
 use Rattle.cell.specs.Cell.{packed, plainAt}
-use Rattle.search.specs.Search.{Result, found, none-found}
-use Rattle.search.specs.Plan.{searchOf}
+use Rattle.search.specs.Search.{Problem, Result, found, none-found, Entry, Flow, going, done, keyOf, run, begin}
+use Rattle.search.specs.Plan.{planOf, searchOf}
+use Rattle.search.specs.Costs.{equal, firstOut}
 
 abbrev pub plain : ℕ → ℕ → ℕ → Cell
 plain x y z = plainAt 0 0 (at (pos x) (pos y) (pos z))
@@ -34,3 +38,25 @@ searches-free = record { route = refl; limit-two = refl; limit-nought = refl }
 pub searches-avoiding : OpenSearches 1
 unfolding searchOf packed rawOf
 searches-avoiding = record { route = refl; limit-two = refl; limit-nought = refl }
+
+-- ---- the order of waiting entries: one pop into that search (1,1,1) and (1,1,-1) wait with one f, and the smaller cell comes out first
+
+abbrev pub openPlan : Problem
+openPlan = planOf (plain 0 0 0) (plain 2 2 0) 65536 65536 100000 0 []
+
+abbrev pub waitingIn : Flow → List Entry
+waitingIn (going s) = s .waiting
+waitingIn (done r) = []
+
+abbrev pub corner : ℤ → Entry
+corner z = record { f = 0x400B_B67A_E858_4CAA; cell = rawOf (plainAt 0 0 (at (pos 1) (pos 1) z)); g = 0x3FFB_B67A_E858_4CAA }
+
+pub record Tied : Type 0 where
+  pub first-two : take 2 (waitingIn (run openPlan 1 (begin openPlan (openPlan .ahead (openPlan .start))))) ≡ corner (pos 1) ∷ corner (negsuc 0) ∷ []
+  pub same-f : equal (corner (pos 1) .f) (corner (negsuc 0) .f) ≡ true
+  pub first-out : firstOut (corner (pos 1)) (corner (negsuc 0)) ≡ true
+  pub smaller-key : ltb (keyOf (corner (pos 1))) (keyOf (corner (negsuc 0))) ≡ true
+
+pub tied : Tied
+unfolding planOf run packed rawOf equal firstOut keyOf
+tied = record { first-two = refl; same-f = refl; first-out = refl; smaller-key = refl }

@@ -57,8 +57,8 @@ module _ (P : Problem) where
     pub roomy : Roomy s
     pub same : closedIn (s .known) ≡ closed
 
-  pub push-looking : (closed c g n h : ℕ) (s : State) → Unit {0} → Looking closed s → Lowered P n (plus g (P .cost c n)) s → HasRoom P n s → Looking closed (pushed P c n (plus g (P .cost c n)) h s)
-  push-looking closed c g n h s any a l room =
+  pub push-looking : (closed c g n h : ℕ) (s : State) → P .ahead n ≡ is h → Unit {0} → Looking closed s → Lowered P n (plus g (P .cost c n)) s → HasRoom P n s → Looking closed (pushed P c n (plus g (P .cost c n)) h s)
+  push-looking closed c g n h s estimate any a l room =
       let t = plus g (P .cost c n) in
       let k = s .known in
       record {

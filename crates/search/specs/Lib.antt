@@ -13,7 +13,8 @@ mod Trails
 pub mod Besides
 mod Judged
 pub mod Counted
-pub mod LargerRooms
-pub mod Shortages
-pub mod Refusals
-pub mod OneMore
+mod LargerRooms
+mod Shortages
+mod Refusals
+mod OneMore
+pub mod Costs

@@ -124,7 +124,7 @@ beforeOf (some e) = e .before
 
 -- ---- waiting entries
 
--- first out is the smaller number: by f, then by the cell, then by g. The bits of costs that are not negative are in the order of the costs
+-- first out is the smaller number: by f, then by the cell, then by g. That this is document 01's order, costs compared as numbers, is `keys-in-order` of proofs/CostsKept.antt
 unfoldable pub keyOf : Entry → ℕ
 keyOf e = (e .f * 340282366920938463463374607431768211456 + e .cell) * 18446744073709551616 + e .g
 

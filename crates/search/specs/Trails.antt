@@ -82,8 +82,8 @@ module _ (P : Problem) (Beside : ℕ → ℕ → Type 0) where
     counted : s .count ≡ suc m
     final : g ≡ gOf (find c (s .known))
 
-  push-around : (c m g n h : ℕ) (s : State) → Beside c n → Around c m g s → Lowered P n (plus g (P .cost c n)) s → HasRoom P n s → Around c m g (pushed P c n (plus g (P .cost c n)) h s)
-  push-around c m g n h s beside a l room =
+  push-around : (c m g n h : ℕ) (s : State) → P .ahead n ≡ is h → Beside c n → Around c m g s → Lowered P n (plus g (P .cost c n)) s → HasRoom P n s → Around c m g (pushed P c n (plus g (P .cost c n)) h s)
+  push-around c m g n h s estimate beside a l room =
       let t = plus g (P .cost c n) in
       let k = s .known in
       let unclosed = l .not-closed in

@@ -12,5 +12,4 @@ pub mod RingSaid
 pub mod OneAnswerRings
 pub mod SearchSaid
 pub mod OneAnswerSearches
-pub mod Limits
-pub mod Parents
+pub mod Distances

@@ -2,7 +2,8 @@
 use mathlib.Core.Path.{sym, _∙_}
 use Rattle.layer.specs.Layer.{rowsOf}
 use Rattle.known.specs.Seek.{found-below}
-use Rattle.expansion.specs.BytesLaws.{cost-small, advance-none, advance-by, popped-skip, popped-bad, popped-all, popped-entered}
+use Rattle.search.proofs.Costs.{cost-small}
+use Rattle.expansion.specs.BytesLaws.{advance-none, advance-by, popped-skip, popped-bad, popped-all, popped-entered}
 use Rattle.expansion.specs.BytesKept.{fits-closed}
 use native.Mathlib.Omega.{arith}
 use borrow.Author.Needs.{needs}

@@ -1,8 +1,27 @@
 -- The distance is a cost, or it is refused.
-use Rattle.expansion.specs.CostLaws.{ahead-is, ahead-refused}
+use mathlib.Core.Path.{_≡_, sym, ap, subst, _∙_}
+use Prim.Native.Nat.{ℕ}
+use lib.Ieee.{Float, binary64, toBits}
 use borrow.Author.Needs.{needs}
+use Rattle.refusal.specs.declared.Coord.{Coord}
+use Rattle.refusal.specs.declared.Refusal.{Refusal}
+use Rattle.distance.specs.declared.DistanceAnswer.the-variants as distance
+use Rattle.distance.specs.Distance.{distanceOf}
+use Rattle.search.specs.Search.{is}
+use Rattle.search.specs.Plan.{distanceBits}
+use Rattle.search.specs.Costs.{Cost}
+use Rattle.search.proofs.Costs.{distance-cost}
+use Rattle.expansion.specs.declared.Estimate.the-variants as estimate
+use Rattle.expansion.specs.Estimate.{toldAhead, SoundAhead}
 use Rattle.expansion.proofs.ahead.Statement.{statement}
 use Rattle.expansion.proofs.ahead.Tie as tie
+
+ahead-is : (a b : Coord) (r : ℕ) (d : Float) → distance.Is d ≡ distanceOf a b → r ≡ toBits binary64 d
+    → (toldAhead (estimate.Bits r) ≡ distanceBits (distanceOf a b)) × SoundAhead (estimate.Bits r)
+ahead-is a b r d e h = (ap is h ∙ ap distanceBits e, subst Cost (sym h) (distance-cost a b d (sym e)))
+
+ahead-refused : (a b : Coord) (r : Refusal) → distance.Refused r ≡ distanceOf a b → (toldAhead (estimate.Refused r) ≡ distanceBits (distanceOf a b)) × SoundAhead (estimate.Refused r)
+ahead-refused a b r e = (ap distanceBits e, tt)
 
 distance-to-requires : tie.Need-distance-to-requires
 distance-to-requires c κs = search needs

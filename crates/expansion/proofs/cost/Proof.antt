@@ -1,5 +1,5 @@
 -- A step costs one of two numbers, and both are costs.
-use Rattle.expansion.specs.CostLaws.{step-is}
+use Rattle.search.proofs.Costs.{step-is}
 use borrow.Author.Needs.{needs}
 use Rattle.expansion.proofs.cost.Statement.{statement}
 use Rattle.expansion.proofs.cost.Tie as tie

@@ -1,5 +1,5 @@
 -- The sum of two costs is a cost.
-use Rattle.expansion.specs.CostLaws.{plus-is}
+use Rattle.search.proofs.Costs.{plus-is}
 use borrow.Author.Needs.{needs}
 use Rattle.expansion.proofs.plus.Statement.{statement}
 use Rattle.expansion.proofs.plus.Tie as tie

@@ -1,35 +1,30 @@
 -- A cost is the bits of a number that is no NaN and has the sign +. Sums of costs, steps and distances are costs, and costs are in the order of their bits. Assumes nothing.
 use mathlib.Core.Path.{_≡_, refl, sym, ap, subst, _∙_}
-use mathlib.Core.Bool.{Bool, true, false, cond, _&&_, Bool·beq, true≢false}
-use Prim.Native.Nat.{ℕ, zero, suc, _+_, _-_, _*_, _/_, _%_, _^_, _<_}
+use mathlib.Core.Bool.{Bool, true, false, not, cond, _&&_, _||_, Bool·beq, true≢false}
+use Prim.Native.Nat.{ℕ, zero, suc, _+_, _*_, _/_, _%_, _^_, _≤_}
 use native.Mathlib.Omega.{arith}
 use lib.Dec.{T, leb, ltb, eqb, lit<}
-use borrow.Author.Tests.{leb-false, lt-leb}
-use lib.Ieee.{Float, nan, inf, fin, binary64, prec, emax, low, hid, ones, top, up, down, odd, units, round, sum, add, below, fits, isNan, nanBits, ofFields, ofBits, toBits}
-use lib.Ieee.Bits.{nanBits-is, ofBits-toBits}
-use lib.Ieee.Fits.{round-is, round-fits, add-fits}
+use borrow.Author.Tests.{leb-false, lt-leb, le-ltb, ltb-true, ltb-false, eq-eqb, ne-eqb}
+use lib.Ieee.{Float, nan, inf, fin, binary64, prec, emax, low, hid, ones, top, up, down, odd, units, round, sum, add, lt, eq, below, fits, isNan, nanBits, ofFields, ofBits, toBits}
+use lib.Ieee.Bits.{nanBits-is, nanBits-above, ofBits-toBits}
+use lib.Ieee.Exact.{HasValue}
+use lib.Ieee.Fits.{round-is, add-fits}
 use Rattle.refusal.specs.declared.Cell.{Cell}
 use Rattle.refusal.specs.declared.Coord.{Coord}
-use Rattle.refusal.specs.declared.Refusal.the-variants.{OutOfRange}
 use Rattle.float.specs.Laws.{either}
 use Rattle.float.proofs.Sizes.{unsigned, numbers-order}
-use Rattle.lattice.specs.declared.ParityAnswer.{ParityAnswer}
-use Rattle.lattice.specs.declared.ParityAnswer.the-variants as parity
-use Rattle.lattice.specs.Lattice.{parityOf, isOdd}
-use Rattle.root.specs.declared.Root.{Root}
-use Rattle.root.specs.declared.Root.the-variants as root
-use Rattle.root.specs.Root.{rootOf, rootWhole, signif, shift}
+use Rattle.lattice.specs.Lattice.{isOdd}
+use Rattle.distance.specs.declared.DistanceAnswer.{DistanceAnswer}
 use Rattle.distance.specs.declared.DistanceAnswer.the-variants as distance
-use Rattle.distance.specs.Distance.{differencesFit, squaredDistance, rooted, distanceIn, distanceBy, distanceOf}
+use Rattle.distance.specs.Distance.{distanceOf}
 use Rattle.distance.specs.Steps.{rootThree, twoFloat}
-use Rattle.cell.specs.Cell.{xOf}
+use Rattle.distance.proofs.Nearest.{distance-nearest}
+use Rattle.cell.specs.Cell.{xOf, coordOf, distanceCells}
 use Rattle.route.specs.Route.{costBetween}
 use Rattle.search.specs.Search.{plus, less, is}
-use Rattle.refusal.specs.declared.Refusal.{Refusal}
 use Rattle.search.specs.Plan.{distanceBits}
-use Rattle.expansion.specs.declared.Estimate.the-variants as estimate
-use Rattle.expansion.specs.State.{Cost}
-use Rattle.expansion.specs.Estimate.{toldAhead, SoundAhead}
+use Rattle.search.specs.Cases.{whether}
+use Rattle.search.specs.Costs.{Cost, equal}
 
 -- ---- a number with its sign, the infinities among them
 
@@ -87,6 +82,22 @@ number-cost x f n =
     let plain = one-sign x (leb (top binary64) (toBits binary64 x)) false (subst (Number (leb (top binary64) (toBits binary64 x))) back (bits-number (toBits binary64 x) number)) n in
     record { positive = leb-false (top binary64) (toBits binary64 x) plain; number = number }
 
+-- ---- which bits are costs
+
+-- those up to infinity's
+pub cost-small : (g : ℕ) → g ≤ 0x7FF0_0000_0000_0000 → Cost g
+cost-small g small =
+    let same : g % 9223372036854775808 ≡ g = omega arith in
+    record { positive = omega arith; number = nanBits-above binary64 g ∙ le-ltb 0x7FF0_0000_0000_0000 (g % 9223372036854775808) (omega arith) }
+
+-- and no others
+pub small-cost : (g : ℕ) → Cost g → g ≤ 0x7FF0_0000_0000_0000
+small-cost g cost =
+    let positive = cost .positive in
+    let same : g % 9223372036854775808 ≡ g = omega arith in
+    let most : g % 9223372036854775808 ≤ 0x7FF0_0000_0000_0000 = ltb-false 0x7FF0_0000_0000_0000 (g % 9223372036854775808) (sym (nanBits-above binary64 g) ∙ cost .number) in
+    omega arith
+
 -- ---- sums
 
 sum-number : (x y : Float) → Number false x → Number false y → Number false (add binary64 x y)
@@ -128,6 +139,43 @@ cost-order a b c d =
     whole : (a : ℕ) → Cost a → unsigned a ≡ a
     whole a c = omega (arith, c .positive)
 
+-- equal numbers are those of which neither is less
+eqb-neither : (a b : ℕ) → eqb a b ≡ not (ltb a b || ltb b a)
+eqb-neither a b =
+    whether (ltb a b)
+    (λ h. let l = ltb-true a b h in rw (h, ne-eqb a b (λ e. omega arith)))
+    (λ h. let l = ltb-false a b h in whether (ltb b a)
+    (λ g. let m = ltb-true b a g in rw (h, g, ne-eqb a b (λ e. omega arith)))
+    (λ g. let m = ltb-false b a g in rw (h, g, eq-eqb a b (omega arith))))
+
+equal-neither : (x y : Float) → Number false x → Number false y → eq x y ≡ not (lt x y || lt y x)
+unfolding eq lt
+equal-neither nan y h k = absurd h
+equal-neither (inf true) y h k = absurd (true≢false h)
+equal-neither (inf false) nan h k = absurd k
+equal-neither (inf false) (inf true) h k = absurd (true≢false k)
+equal-neither (inf false) (inf false) h k = refl
+equal-neither (inf false) (fin true n d) h k = absurd (true≢false k)
+equal-neither (inf false) (fin false n d) h k = refl
+equal-neither (fin true m e) y h k = absurd (true≢false h)
+equal-neither (fin false m e) nan h k = absurd k
+equal-neither (fin false m e) (inf true) h k = absurd (true≢false k)
+equal-neither (fin false m e) (inf false) h k = refl
+equal-neither (fin false m e) (fin true n d) h k = absurd (true≢false k)
+equal-neither (fin false m e) (fin false n d) h k = plain (eqb (m * up e * down d) (n * up d * down e)) ∙ eqb-neither (m * up e * down d) (n * up d * down e)
+  where
+    plain : (b : Bool) → (b && true) ≡ b
+    plain true = refl
+    plain false = refl
+
+-- costs are the same number exactly where their bits are the same
+pub cost-equal : (a b : ℕ) → Cost a → Cost b → equal a b ≡ eqb a b
+unfolding equal less
+cost-equal a b c d =
+    equal-neither (ofBits binary64 a) (ofBits binary64 b) (cost-number a c) (cost-number b d)
+    ∙ (λ i. not (cost-order a b c d i || cost-order b a d c i))
+    ∙ sym (eqb-neither a b)
+
 -- ---- steps
 
 step-by : (t : Bool) → Cost (toBits binary64 (cond t twoFloat rootThree))
@@ -144,40 +192,19 @@ step-is a b r x e h = let same = h ∙ ap (toBits binary64) e in (same, subst Co
 
 -- ---- distances
 
-root-cost : (x d : Float) → rootOf x ≡ root.Of d → Cost (toBits binary64 d)
-unfolding rootOf rootWhole
-root-cost nan d h = absurd (let z : _≡_ {A = ℕ} 0 1 = cc in omega arith)
-root-cost (inf s) d h = absurd (let z : _≡_ {A = ℕ} 0 1 = cc in omega arith)
-root-cost (fin true m e) d h = absurd (let z : _≡_ {A = ℕ} 0 1 = cc in omega arith)
-root-cost (fin false m e) d h = go (eqb (m * up e % down e) 0 && leb (m * up e / down e) (2 ^ 64)) h
-  where
-    whole-cost : (n : ℕ) → Cost (toBits binary64 (rootWhole n))
-    whole-cost n = number-cost (rootWhole n) (round-fits binary64 false (signif n) (2 ^ (shift n - 1))) (round-number false (signif n) (2 ^ (shift n - 1)))
-
-    go : (b : Bool) → cond b (root.Of (rootWhole (m * up e / down e))) (root.Refused OutOfRange) ≡ root.Of d → Cost (toBits binary64 d)
-    go true h = let k : rootWhole (m * up e / down e) ≡ d = cc in subst (λ (y : Float). Cost (toBits binary64 y)) k (whole-cost (m * up e / down e))
-    go false h = absurd (let z : _≡_ {A = ℕ} 0 1 = cc in omega arith)
+-- finite, with the sign +
+value-number : (x : Float) (a c : ℕ) → HasValue x false a c → Number false x
+value-number nan a c h = h
+value-number (inf s) a c h = absurd h
+value-number (fin s m e) a c h = h .0
 
 pub distance-cost : (a b : Coord) (d : Float) → distanceOf a b ≡ distance.Is d → Cost (toBits binary64 d)
-unfolding distanceOf
-distance-cost a b d = by (parityOf a) (parityOf b)
+distance-cost a b d h = let n = distance-nearest a b d h in number-cost d (n .representable) (value-number d _ _ (n .not-negative))
+
+-- the heuristic that a search is told
+pub ahead-cost : (a b : Cell) (x : ℕ) → is x ≡ distanceBits (distanceCells a b) → Cost x
+ahead-cost a b x e = by-answer (distanceOf (coordOf a) (coordOf b)) refl e
   where
-    taken : (x : Float) (r : Root) → rootOf x ≡ r → rooted r ≡ distance.Is d → Cost (toBits binary64 d)
-    taken x (root.Of v) e h = root-cost x d (let g : v ≡ d = cc in e ∙ ap root.Of g)
-    taken x (root.Refused w) e h = absurd (let z : _≡_ {A = ℕ} 0 1 = cc in omega arith)
-
-    tested : (t : Bool) → distanceIn t a b ≡ distance.Is d → Cost (toBits binary64 d)
-    tested true h = taken (squaredDistance a b) (rootOf (squaredDistance a b)) refl h
-    tested false h = absurd (let z : _≡_ {A = ℕ} 0 1 = cc in omega arith)
-
-    by : (p q : ParityAnswer) → distanceBy p q a b ≡ distance.Is d → Cost (toBits binary64 d)
-    by (parity.Refused r) q h = absurd (let z : _≡_ {A = ℕ} 0 1 = cc in omega arith)
-    by (parity.Is p) (parity.Refused r) h = absurd (let z : _≡_ {A = ℕ} 0 1 = cc in omega arith)
-    by (parity.Is p) (parity.Is q) h = tested (differencesFit a b) h
-
-pub ahead-is : (a b : Coord) (r : ℕ) (d : Float) → distance.Is d ≡ distanceOf a b → r ≡ toBits binary64 d
-    → (toldAhead (estimate.Bits r) ≡ distanceBits (distanceOf a b)) × SoundAhead (estimate.Bits r)
-ahead-is a b r d e h = (ap is h ∙ ap distanceBits e, subst Cost (sym h) (distance-cost a b d (sym e)))
-
-pub ahead-refused : (a b : Coord) (r : Refusal) → distance.Refused r ≡ distanceOf a b → (toldAhead (estimate.Refused r) ≡ distanceBits (distanceOf a b)) × SoundAhead (estimate.Refused r)
-ahead-refused a b r e = (ap distanceBits e, tt)
+    by-answer : (d : DistanceAnswer) → distanceOf (coordOf a) (coordOf b) ≡ d → is x ≡ distanceBits d → Cost x
+    by-answer (distance.Is d) f g = let same : toBits binary64 d ≡ x = cc in subst Cost same (distance-cost (coordOf a) (coordOf b) d f)
+    by-answer (distance.Refused r) f g = absurd (let z : _≡_ {A = ℕ} 0 1 = cc in omega arith)
