@@ -1,2 +1,3 @@
 mod OneAnswer
 pub mod Points
+pub mod Returned
