@@ -1,3 +1,3 @@
 mod OneAnswer
 pub mod Points
-pub mod Limit
+pub mod Returned

@@ -1,4 +1,4 @@
--- Verdicts on four lists, by computation. Assumes nothing.
+-- Verdicts on four lists and choices between three pairs, by computation. Assumes nothing.
 use mathlib.Core.Path.{_≡_, refl}
 use mathlib.Core.List.{List, [], _∷_, flatMap}
 use Prim.Native.Nat.{ℕ}
@@ -10,7 +10,8 @@ use Rattle.words.specs.Word.{lowDigits, number, ordered, bytesOf}
 use Rattle.lattice.specs.Lattice.{at}
 use Rattle.cell.specs.Cell.{plainAt}
 use Rattle.cell.specs.Bytes.{cellBytes}
-use Rattle.route.specs.Route.{verdictOf}
+use Rattle.route.specs.Route.{verdictOf, choiceOf}
+use Rattle.route.specs.Choice.{choiceBetween}
 
 -- a plain cell of frame 0 and resolution 0
 abbrev cell : ℕ → ℕ → ℕ → Cell
@@ -33,3 +34,14 @@ pub four-verdicts :
     × (judged (cell 2147483646 0 0 ∷ cell 2147483644 0 0 ∷ []) (cell 2147483646 0 0) (cell 2147483644 0 0) 0x4000_0000_0000_0000 ≡ 0)
 unfolding verdictOf cellBytes bytesOf ordered lowDigits number rawOf flatMap add ofBits toBits
 four-verdicts = (refl, refl, refl, refl)
+
+-- the choice between that list at one cost, sent, and the same at another, homing
+abbrev chosen : ℕ → ℕ → ℕ
+chosen cost price =
+    let route = flatMap cellBytes two-diagonals in
+    choiceBetween route route (cellBytes (cell 0 0 0)) (cellBytes (cell 2 2 0)) cost (cellBytes (cell 0 0 0)) (cellBytes (cell 2 2 0)) price [] 0 1
+
+-- the sent list where it is accepted, though the homing one is too; the homing list where only that is; neither
+pub each-choice : (chosen 0x400B_B67A_E858_4CAA 0x400B_B67A_E858_4CAA ≡ 1) × (chosen 0x400B_B67A_E858_4CAB 0x400B_B67A_E858_4CAA ≡ 2) × (chosen 0x400B_B67A_E858_4CAB 0x400B_B67A_E858_4CAB ≡ 0)
+unfolding verdictOf choiceOf cellBytes bytesOf ordered lowDigits number rawOf flatMap add ofBits toBits
+each-choice = (refl, refl, refl)

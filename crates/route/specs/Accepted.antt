@@ -1,16 +1,19 @@
--- What an accepted route is, in words of the domain and apart from the checker's own definition: demand 3. Definitions only. Assumes nothing.
+-- What an accepted route is, in words of the domain and apart from the checker's own definition: demand 3, of cells and of the bytes that a call is handed. Definitions only. Assumes nothing.
 use mathlib.Core.Path.{_≡_}
 use mathlib.Core.Bool.{true, false}
 use mathlib.Core.List.{List, [], _∷_, List·Memᴰ}
-use Prim.Native.Nat.{ℕ, _%_}
+use Prim.Native.Nat.{ℕ, _%_, _<_}
 use lib.IntN.{pos}
 use lib.Ieee.{Float, fin, binary64, add, toBits}
+use lib.ListN.{length}
 use Rattle.refusal.specs.declared.Cell.{Cell}
 use Rattle.lattice.specs.Lattice.{isLatticePoint, neighborPlaces}
 use Rattle.distance.specs.Distance.{distanceOf}
 use Rattle.distance.specs.declared.DistanceAnswer.the-variants.{Is}
 use Rattle.cell.specs.Cell.{frameOf, resolutionOf, coordOf, isPlain}
-use Rattle.layer.specs.Layer.{Row, held, heldOf}
+use Rattle.cell.specs.Bytes.{cellAt}
+use Rattle.cell.specs.Lists.{cellsOf}
+use Rattle.layer.specs.Layer.{Row, held, heldOf, rowsOf, isSound}
 
 -- a step goes from a cell of one parity to a plain cell of the same frame and resolution that stands at one of the 14 places around it
 pub record Step (a b : Cell) : Type 0 where
@@ -39,3 +42,12 @@ pub record Accepted (avoiding : Type 0) (rows : List Row) (start goal : Cell) (c
   pub total : Float
   pub leads : Leads avoiding rows start (fin false 0 (pos 0)) later goal total
   pub claimed : toBits binary64 total ≡ cost
+
+-- demand 3 of bytes: whole cells from one start to one goal, a sound layer of n records, a rule that there is, and an accepted route in that layer
+pub record Demand3 (route start goal : List ℕ) (cost : ℕ) (flags : List ℕ) (n rule : ℕ) : Type 0 where
+  pub whole-cells : length route % 16 ≡ 0
+  pub one-start : length start ≡ 16
+  pub one-goal : length goal ≡ 16
+  pub sound : isSound 20 flags n ≡ true
+  pub free-or-avoiding : rule < 2
+  pub accepted : Accepted (rule ≡ 1) (rowsOf 20 flags n) (cellAt start 0) (cellAt goal 0) cost (cellsOf route)

@@ -1,5 +1,2 @@
 pub mod Points
-pub mod Costs
-pub mod CostsKept
-pub mod FirstOut
-pub mod StepDistances
+pub mod Words

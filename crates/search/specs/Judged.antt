@@ -1,10 +1,8 @@
 -- The route checker walks along what the search found, step by step: the cells are the same, and what it adds is what the search added. Assumes nothing.
 use mathlib.Core.Path.{_≡_, refl, sym, ap, subst, _∙_}
 use mathlib.Core.Bool.{Bool, true, false, cond, Bool·beq}
-use mathlib.Core.List.{List, [], _∷_, map}
+use mathlib.Core.List.{List, _∷_, map}
 use Prim.Native.Nat.{ℕ}
-use native.Mathlib.Omega.{arith}
-use lib.Dec.{eqb}
 use borrow.Author.Tests.{eq-eqb}
 use lib.IntN.{pos}
 use lib.Ieee.{Float, fin, binary64, add, toBits, ofBits}
@@ -12,19 +10,17 @@ use lib.Ieee.Bits.{ofBits-toBits}
 use lib.Ieee.Fits.{add-fits}
 use Rattle.refusal.specs.declared.Cell.{Cell}
 use Rattle.refusal.specs.Table.{rawOf}
-use Rattle.lattice.specs.declared.ParityAnswer.{ParityAnswer}
-use Rattle.lattice.specs.declared.ParityAnswer.the-variants as parity
 use Rattle.lattice.specs.Lattice.{isOdd}
 use Rattle.distance.specs.Steps.{rootThree, twoFloat}
 use Rattle.cell.specs.Cell.{xOf}
-use Rattle.cell.specs.Laws.{Words, same-cell}
+use Rattle.cell.specs.Laws.{Words}
 use Rattle.layer.specs.Layer.{Row}
 use Rattle.route.specs.Route.{costBetween, arrived, walkFrom, judgeCells}
 use Rattle.route.specs.StepLaws.{is-step}
-use Rattle.search.specs.Search.{plus, Problem, found, Flow, going, done, begin, run}
-use Rattle.search.specs.Plan.{cellOf, planOf, resultOf, popsFor, resultBy}
-use Rattle.search.specs.Besides.{cell-raw, Beside, near-beside}
-use Rattle.search.specs.Trails.{Leads, here, onward, Route, found-route}
+use Rattle.search.specs.Search.{plus, Problem}
+use Rattle.search.specs.Plan.{cellOf, planOf}
+use Rattle.search.specs.Besides.{cell-raw, Beside}
+use Rattle.search.specs.Trails.{Leads, here, onward, Route}
 
 -- ---- the bits of a sum
 
@@ -76,30 +72,11 @@ module _ (s e : Cell) (known waiting limit rule : ℕ) (rows : List Row) where
     judged cost later walk w =
         rw (cell-raw s in-start, eq-eqb (rawOf s) (rawOf s) refl, walk, eq-eqb (rawOf e) (rawOf e) refl, eq-eqb (toBits binary64 (ofBits binary64 cost)) cost w)
 
-    route-judged : (cost : ℕ) (cells : List ℕ) → Route plan Beside (rawOf e) cost cells → judgeCells rule rows s e cost (map cellOf cells) ≡ 0
+    -- a route to the goal is judged right, at its cost
+    pub route-judged : (cost : ℕ) (cells : List ℕ) → Route plan Beside (rawOf e) cost cells → judgeCells rule rows s e cost (map cellOf cells) ≡ 0
     unfolding planOf ofBits toBits
     route-judged cost cells r =
         let h = walked (r .leads) refl in
         subst (λ (l : List ℕ). judgeCells rule rows s e cost (map cellOf l) ≡ 0) (sym (r .begins))
         (judged cost (r .later) (subst (λ (c : Cell). walkFrom rule rows c (fin false 0 (pos 0)) (map cellOf (r .later)) ≡ arrived e (ofBits binary64 cost)) (cell-raw s in-start)
         (h .0 ∙ ap (λ (c : Cell). arrived c (ofBits binary64 cost)) (cell-raw e in-goal))) (h .1))
-
-    -- ---- the whole search
-
-    -- start and goal the same: the route is that cell, and costs nothing
-    pub same-judged : eqb (rawOf s) (rawOf e) ≡ true → judgeCells rule rows s e 0 (map cellOf (rawOf s ∷ [])) ≡ 0
-    unfolding ofBits toBits walkFrom
-    same-judged same = judged 0 [] (ap (λ (c : Cell). arrived c (fin false 0 (pos 0))) (same-cell s e in-start in-goal same)) refl
-
-    module _ (cells : List ℕ) (cost expansions : ℕ) where
-      flow-judged : (f : Flow) → run plan (popsFor known waiting) (begin plan (plan .ahead (plan .start))) ≡ f → resultOf f ≡ found cells cost expansions → judgeCells rule rows s e cost (map cellOf cells) ≡ 0
-      unfolding planOf
-      flow-judged (going t) f g = absurd (let z : _≡_ {A = ℕ} 0 1 = cc in omega arith)
-      flow-judged (done r) f g = route-judged cost cells (found-route plan Beside near-beside (popsFor known waiting) cells cost expansions (f ∙ ap done g))
-
-      -- what is found between two ends that are not the same
-      pub result-judged : (p q : ParityAnswer) → resultBy p q plan ≡ found cells cost expansions → judgeCells rule rows s e cost (map cellOf cells) ≡ 0
-      unfolding planOf
-      result-judged (parity.Refused r) q f = absurd (let z : _≡_ {A = ℕ} 0 1 = cc in omega arith)
-      result-judged (parity.Is p) (parity.Refused r) f = absurd (let z : _≡_ {A = ℕ} 0 1 = cc in omega arith)
-      result-judged (parity.Is p) (parity.Is q) f = flow-judged (run plan (popsFor known waiting) (begin plan (plan .ahead (plan .start)))) refl f

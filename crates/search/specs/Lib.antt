@@ -9,7 +9,7 @@ pub mod Cases
 pub mod KnownLaws
 pub mod WaitingLaws
 pub mod Kept
-mod Trails
+pub mod Trails
 pub mod Besides
 mod Judged
 pub mod Counted

@@ -8,6 +8,7 @@ pub mod OneAnswerLayers
 pub mod OneAnswerPaths
 pub mod KnownPoints
 pub mod OneAnswerRoutes
+pub mod Demand3
 pub mod RingSaid
 pub mod OneAnswerRings
 pub mod SearchSaid
