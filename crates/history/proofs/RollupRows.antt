@@ -10,23 +10,21 @@ use lib.ListN.{length}
 use lib.Ieee.{Float, binary64, fits, add, div, ofInt, ofBits, toBits}
 use lib.Ieee.Bits.{toBits-lt, ofBits-fits}
 use lib.Ieee.Fits.{add-fits, div-fits, ofInt-fits, cond-fits}
-use Rattle.refusal.specs.declared.Cell.{Cell}
 use Rattle.cell.specs.declared.CellAnswer.{CellAnswer}
 use Rattle.cell.specs.declared.CellAnswer.the-variants as cell
 use Rattle.cell.specs.Cell.{lessCell, parentOf}
 use Rattle.cell.specs.Laws.{Words}
 use Rattle.cell.specs.Ancestors.{parent-words}
 use Rattle.layer.specs.Layer.{Row, ascending}
-use Rattle.layer.specs.Bytes.{Storable, AllStorable, no-rows, one-more}
+use Rattle.layer.specs.Bytes.{AllStorable, no-rows, one-more}
 use Rattle.layer.specs.Changes.{given}
 use Rattle.order.specs.Groups.{Group, numbersOf, lastRow, groupsOf}
 use Rattle.order.specs.GroupLaws.{GroupsStorable, no-groups, one-group, groups-ascending, groups-storable}
 use Rattle.aggregate.specs.declared.Aggregation.{Aggregation}
 use Rattle.aggregate.specs.declared.Aggregation.the-variants.{Count, Sum, Mean, Min, Max, Median}
-use Rattle.aggregate.specs.declared.Aggregated.{Aggregated}
-use Rattle.aggregate.specs.declared.Aggregated.the-variants.{Number, NoValues, HasNan}
+use Rattle.aggregate.specs.declared.Aggregated.the-variants.{Number, HasNan}
 use Rattle.aggregate.specs.Aggregate.{anyNan, sumFrom, sumOf, countOf, leastOf, greatestOf, kthOf, medianOf, numberBy, minds, aggregateOf}
-use Rattle.rollup.specs.Rollup.{Rolled, nanFound, rolled, parentThen, parentRows, rolledThen, groupThen, rolledOf}
+use Rattle.rollup.specs.Rollup.{Rolled, nanFound, rolled, parentThen, parentRows, groupThen, rolledOf}
 
 -- ---- each aggregate is an f64
 

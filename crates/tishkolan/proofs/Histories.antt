@@ -1,7 +1,7 @@
 -- After any chain of C calls on a layer, refused ones among them, what get tells is what the last call that touched the cell left of it: `flags-get-after-calls`, `values-get-after-calls`. Each
 -- call is one step of a history (crates/history), by its own contract. Assumes nothing.
 use mathlib.Core.Path.{_≡_, refl, sym, ap, ap₂, _∙_}
-use mathlib.Core.List.{List, []}
+use mathlib.Core.List.{List}
 use Prim.Native.Nat.{ℕ, _-_}
 use denote.Ref.{now}
 use Rattle.refusal.specs.declared.Cell.{Cell}
@@ -18,7 +18,7 @@ use Rattle.aggregate.specs.declared.Aggregation.{Aggregation}
 use Rattle.rollup.specs.Rollup.{rollupIn}
 use Rattle.survey.specs.declared.LoadAnswer.{LoadAnswer}
 use Rattle.survey.specs.declared.LoadAnswer.the-variants as load-answer
-use Rattle.survey.specs.Survey.{Loading, loadOf}
+use Rattle.survey.specs.Survey.{loadOf}
 use Rattle.told.specs.declared.CountTold.{CountTold}
 use Rattle.told.specs.declared.KeptTold.{KeptTold}
 use Rattle.told.specs.declared.LoadTold.{LoadTold}

@@ -1,16 +1,15 @@
 -- When the C calls set and remove are answered and when they are refused, with what C is told, over the calls' own contracts: `flags-set-answers` and its like; a refusal changes no byte; and
 -- `flags-room-serves-again`, over a remove and the set after it. Assumes nothing.
-use mathlib.Core.Path.{_≡_, refl, sym, ap, ap₂, subst, _∙_}
+use mathlib.Core.Path.{_≡_, refl, sym, ap, ap₂, _∙_}
 use mathlib.Core.Bool.{Bool, true, false, cond}
 use mathlib.Core.List.{List}
-use Prim.Native.Nat.{ℕ, _+_, _-_, _≤_}
+use Prim.Native.Nat.{ℕ, _-_, _≤_}
 use native.Mathlib.Omega.{arith}
 use borrow.Author.Tests.{eqb-false, ltb-true, ltb-false}
 use lib.Dec.{eqb, ltb}
 use lib.ListN.{length}
 use denote.Ref.{now}
 use Rattle.refusal.specs.declared.Cell.{Cell}
-use Rattle.refusal.specs.declared.Refusal.{Refusal}
 use Rattle.refusal.specs.declared.Refusal.the-variants.{BadList}
 use Rattle.words.specs.Word.{Bytes}
 use Rattle.cell.specs.declared.CellAnswer.the-variants as cell
@@ -22,11 +21,9 @@ use Rattle.layer.specs.Changes.{Changed, changed, saying, setIn, removeIn}
 use Rattle.layer.specs.declared.HeldAnswer.{HeldAnswer}
 use Rattle.layer.specs.declared.HeldAnswer.the-variants as kept
 use Rattle.layer.specs.declared.CountAnswer.{CountAnswer}
-use Rattle.layer.specs.declared.CountAnswer.the-variants as count
 use Rattle.layer.proofs.Answers.{set-bad-list, set-bad-layer, set-new, set-no-room, set-again, remove-bad-list, remove-bad-layer, remove-kept, remove-missing, room-serves-again}
 use Rattle.told.specs.declared.CountTold.{CountTold}
 use Rattle.told.specs.declared.KeptTold.{KeptTold}
-use Rattle.told.specs.Told.{toldOf}
 use Rattle.told.specs.Layers.{ofCount, ofFlagsKept, ofValueKept, missingTold, noKept}
 use Rattle.tishkolan.specs.LayerAnswers.{tellingCount, tellingKept, LayerCase, no-cell, no-layer, new-cell, full-layer, kept-cell, setTold, removeTold}
 use Rattle.tishkolan.proofs.LayerCalls.{FlagsSet, FlagsRemove, ValuesSet, ValuesRemove}

@@ -1,5 +1,5 @@
 -- A chain of C calls, computed: into a flag table with room for one record one cell is set, and another is refused. So the theorems over chains of calls speak of something. Assumes nothing.
-use mathlib.Core.Path.{_≡_, refl, sym, ap}
+use mathlib.Core.Path.{refl, sym, ap}
 use mathlib.Core.List.{List, [], _∷_, _++_}
 use Prim.Native.Nat.{ℕ}
 use lib.ListN.{replicate}
