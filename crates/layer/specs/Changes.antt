@@ -72,6 +72,18 @@ unfoldable pub clearIn : ℕ → List ℕ → List ℕ
 unfolding refilled
 clearIn w l = refilled w (roomFor w l) [] l
 
+-- ---- the count that a call leaves: where it refuses, the one that was given
+
+abbrev pub countBy : CountAnswer → ℕ → ℕ
+countBy (count.Cells m) n = m
+countBy (count.Refused r) n = n
+
+-- a cell that was removed is one less
+abbrev pub leftBy : HeldAnswer → ℕ → ℕ
+leftBy (kept.Kept k) n = n - 1
+leftBy kept.Nothing n = n
+leftBy (kept.Refused r) n = n
+
 -- ---- the listing: the records' bytes at the front of what is lent for them, and how many cells they are
 
 abbrev pub listed : ℕ → List ℕ → ℕ → List ℕ → Changed CountAnswer

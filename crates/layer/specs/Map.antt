@@ -1,4 +1,4 @@
--- A layer is a map: what `get`, `set` and `remove` do to one another, over lists of rows, and `get-is-last-set`, over any sequence of calls.
+-- A layer is a map: what `get`, `set` and `remove` do to one another, over lists of rows.
 -- Cells are compared by their 128 bits as a number. Assumes nothing.
 use mathlib.Core.Path.{_≡_, refl, sym, ap, _∙_}
 use mathlib.Core.Bool.{Bool, true, false, cond, and-eq-true-iff}
@@ -223,58 +223,20 @@ without-none c (r ∷ rs) e = remove-none c r rs (sameCell (r .cell) c) refl e (
 pub length-without-none : (c : Cell) (rs : List Row) → heldOf c rs ≡ nothing → length (withoutCell c rs) ≡ length rs
 length-without-none c rs e = ap length (without-none c rs e)
 
--- ---- any sequence of calls
+-- ---- what is held of any cell
 
--- a call that was answered: one that was refused, for want of room say, is no part of a sequence
-pub data Call : Type 0 where
-  setRow : Row → Call
-  removeCell : Cell → Call
+with-held : (c : Cell) (s : Row) (rs : List Row) (same : Bool) → sameCell (s .cell) c ≡ same → heldOf c (withRow s rs) ≡ cond same (held (s .kept)) (heldOf c rs)
+with-held c s rs true e = held-with-same c s rs e
+with-held c s rs false e = held-with-other c s rs e
 
--- the rows after these calls, the newest of which stands first
-unfoldable pub afterFrom : List Row → List Call → List Row
-unfolding withRow withoutCell
-afterFrom rs [] = rs
-afterFrom rs (setRow r ∷ earlier) = withRow r (afterFrom rs earlier)
-afterFrom rs (removeCell c ∷ earlier) = withoutCell c (afterFrom rs earlier)
+-- after a set, of the cell what was set, and of another what was held
+pub held-with : (c : Cell) (s : Row) (rs : List Row) → heldOf c (withRow s rs) ≡ cond (sameCell (s .cell) c) (held (s .kept)) (heldOf c rs)
+held-with c s rs = with-held c s rs (sameCell (s .cell) c) refl
 
--- what the last set of a cell kept, if it was not removed since; where no call was about the cell, what was held before
-unfoldable pub lastSetFrom : Held → Cell → List Call → Held
-lastSetFrom h c [] = h
-lastSetFrom h c (setRow r ∷ earlier) = cond (sameCell (r .cell) c) (held (r .kept)) (lastSetFrom h c earlier)
-lastSetFrom h c (removeCell d ∷ earlier) = cond (sameCell d c) nothing (lastSetFrom h c earlier)
+without-held : (c d : Cell) (rs : List Row) (same : Bool) → ascending rs ≡ true → sameCell d c ≡ same → heldOf c (withoutCell d rs) ≡ cond same nothing (heldOf c rs)
+without-held c d rs true up e = held-without-same d c rs up e
+without-held c d rs false up e = held-without-other d c rs e
 
--- the same, from the empty layer
-abbrev pub afterCalls : List Call → List Row
-afterCalls calls = afterFrom [] calls
-
-abbrev pub lastSet : Cell → List Call → Held
-lastSet c calls = lastSetFrom nothing c calls
-
--- the rows ascend after any calls
-pub after-ascending : (rs : List Row) (calls : List Call) → ascending rs ≡ true → ascending (afterFrom rs calls) ≡ true
-unfolding afterFrom
-after-ascending rs [] up = up
-after-ascending rs (setRow r ∷ earlier) up = with-ascending r (afterFrom rs earlier) (after-ascending rs earlier up)
-after-ascending rs (removeCell c ∷ earlier) up = without-ascending c (afterFrom rs earlier) (after-ascending rs earlier up)
-
-after-set : (c : Cell) (r : Row) (rs : List Row) (h : Held) (same : Bool) → sameCell (r .cell) c ≡ same → heldOf c rs ≡ h → heldOf c (withRow r rs) ≡ cond same (held (r .kept)) h
-after-set c r rs h true f e = held-with-same c r rs f
-after-set c r rs h false f e = held-with-other c r rs f ∙ e
-
-after-remove : (c d : Cell) (rs : List Row) (h : Held) (same : Bool) → ascending rs ≡ true → sameCell d c ≡ same → heldOf c rs ≡ h → heldOf c (withoutCell d rs) ≡ cond same nothing h
-after-remove c d rs h true up f e = held-without-same d c rs up f
-after-remove c d rs h false up f e = held-without-other d c rs f ∙ e
-
--- after any sequence of calls on ascending rows, get answers the last set not removed, or what was held before
-pub get-is-last-set-from : (c : Cell) (rs : List Row) (calls : List Call) → ascending rs ≡ true → heldOf c (afterFrom rs calls) ≡ lastSetFrom (heldOf c rs) c calls
-unfolding afterFrom lastSetFrom
-get-is-last-set-from c rs [] up = refl
-get-is-last-set-from c rs (setRow r ∷ earlier) up =
-    after-set c r (afterFrom rs earlier) (lastSetFrom (heldOf c rs) c earlier) (sameCell (r .cell) c) refl (get-is-last-set-from c rs earlier up)
-get-is-last-set-from c rs (removeCell d ∷ earlier) up =
-    after-remove c d (afterFrom rs earlier) (lastSetFrom (heldOf c rs) c earlier) (sameCell d c) (after-ascending rs earlier up) refl (get-is-last-set-from c rs earlier up)
-
--- after any sequence of calls, get answers the last set not removed
-pub get-is-last-set : (c : Cell) (calls : List Call) → heldOf c (afterCalls calls) ≡ lastSet c calls
-unfolding heldOf ascending
-get-is-last-set c calls = get-is-last-set-from c [] calls refl
+-- after a remove, of the cell nothing, and of another what was held
+pub held-without : (c d : Cell) (rs : List Row) → ascending rs ≡ true → heldOf c (withoutCell d rs) ≡ cond (sameCell d c) nothing (heldOf c rs)
+held-without c d rs up = without-held c d rs (sameCell d c) up refl

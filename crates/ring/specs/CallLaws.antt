@@ -14,7 +14,7 @@ use Rattle.cell.specs.declared.CellAnswer.{CellAnswer}
 use Rattle.cell.specs.declared.CellAnswer.the-variants as cell
 use Rattle.cell.specs.Bytes.{fromBytesOf}
 use Rattle.layer.specs.declared.CountAnswer.the-variants as count
-use Rattle.layer.specs.Sequences.{read-words}
+use Rattle.layer.proofs.Holding.{read-words}
 use Rattle.listing.specs.Listing.{cellsLaid}
 use Rattle.ring.specs.declared.Rooms.{Rooms}
 use Rattle.ring.specs.Ring.{Walk, going, stopped, walkOf, Ringed, ringed, listedBy, hasRooms, roomsOf, ringFrom, ringIn}

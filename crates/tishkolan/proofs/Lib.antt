@@ -5,6 +5,10 @@ pub mod Found
 pub mod OneAnswer
 pub mod OneAnswerCells
 pub mod OneAnswerLayers
+pub mod LayerCalls
+pub mod LayerAnswers
+pub mod Histories
+pub mod LayerPoints
 pub mod OneAnswerPaths
 pub mod KnownPoints
 pub mod OneAnswerRoutes

@@ -1,3 +1,4 @@
 pub mod Points
 pub mod Cells
 pub mod Aggregates
+pub mod LayerAnswers

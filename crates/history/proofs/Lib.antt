@@ -1,0 +1,4 @@
+pub mod RollupRows
+pub mod Steps
+pub mod History
+pub mod Points
