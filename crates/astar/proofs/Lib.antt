@@ -1,3 +1,4 @@
 mod OneAnswer
 pub mod Points
+pub mod Limit
 pub mod Returned

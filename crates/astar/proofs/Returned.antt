@@ -6,7 +6,7 @@ use mathlib.Core.List.{List, map, flatMap}
 use Prim.Native.Nat.{ℕ, _*_, _%_}
 use native.Mathlib.Omega.{arith}
 use borrow.Author.Tests.{eq-eqb}
-use lib.Dec.{eqb, leb, ltb}
+use lib.Dec.{leb, ltb}
 use lib.ListN.{length, take, length-map}
 use Rattle.refusal.specs.declared.Cell.{Cell}
 use Rattle.refusal.specs.declared.Refusal.{Refusal}
@@ -15,20 +15,19 @@ use Rattle.refusal.specs.declared.Room.the-variants.{Output}
 use Rattle.words.specs.Word.{Bytes}
 use Rattle.cell.specs.declared.CellAnswer.{CellAnswer}
 use Rattle.cell.specs.declared.CellAnswer.the-variants as cell
-use Rattle.cell.specs.Bytes.{cellAt, cellBytes, fromBytesOf}
+use Rattle.cell.specs.Bytes.{cellBytes, fromBytesOf}
 use Rattle.cell.specs.Lists.{isList}
 use Rattle.layer.specs.Layer.{Row, rowsOf, isSound}
 use Rattle.layer.specs.Changes.{Changed, changed}
-use Rattle.layer.specs.Sequences.{read-words}
+use Rattle.layer.proofs.Holding.{read-words}
 use Rattle.listing.specs.Listing.{roomIn, cellsLaid}
 use Rattle.listing.specs.Laws.{length-cells-bytes}
-use Rattle.listing.proofs.ReadBack.{cells-back, laid-front, cells-are-bytes}
+use Rattle.listing.proofs.ReadBack.{read-cell, cells-back, laid-front, cells-are-bytes}
 use Rattle.route.specs.Route.{verdictOf}
 use Rattle.route.specs.Accepted.{Demand3}
 use Rattle.route.specs.Demand.{accepted-is-right}
 use Rattle.search.specs.Search.{Result, found, none-found}
 use Rattle.search.specs.Plan.{cellOf, searchOf}
-use Rattle.search.specs.Cases.{whether}
 use Rattle.search.specs.Accepted.{found-accepted}
 use Rattle.search.proofs.Words.{found-words}
 use Rattle.search.specs.Searched.{searched}
@@ -41,17 +40,6 @@ use Rattle.astar.specs.Call.{hasRooms, resultUnder, resultIn, wiped, sea
 -- a refusal is no route
 not-found : {r : Refusal} {t : Route} → answer.Refused r ≡ answer.Found t → ⊥
 not-found e = let z : _≡_ {A = ℕ} 0 1 = cc in omega arith
-
--- bytes that are taken for a cell are sixteen, and are that cell's
-one-cell : (m : List ℕ) (c : Cell) → fromBytesOf m ≡ cell.Is c → (eqb (length m) 16 ≡ true) × (cellAt m 0 ≡ c)
-unfolding fromBytesOf
-one-cell m c e = whether (eqb (length m) 16) (λ t. (t, same (rw t at e))) (λ t. absurd (other (rw t at e)))
-  where
-    same : cell.Is (cellAt m 0) ≡ cell.Is c → cellAt m 0 ≡ c
-    same f = cc
-
-    other : {r : Refusal} → cell.Refused r ≡ cell.Is c → ⊥
-    other f = let z : _≡_ {A = ℕ} 0 1 = cc in omega arith
 
 module _ (s e : List ℕ) (known waiting limit rule : ℕ) (flags : List ℕ) (n : ℕ) (l : List ℕ) (in-start : Bytes s) (in-goal : Bytes e) (t : Route) where
   abbrev rows : List Row
@@ -79,10 +67,14 @@ module _ (s e : List ℕ) (known waiting limit rule : ℕ) (flags : List ℕ) (n
           let back = cells-back cells (found-words c d known waiting limit rule rows cs cost expansions words f) in
           let front : take (16 * length cs) (cellsLaid cells l) ≡ flatMap cellBytes cells = ap (λ (k : ℕ). take (16 * k) (cellsLaid cells l)) (sym (length-map cs cellOf)) ∙ laid-front cells l in
           let whole : isList (flatMap cellBytes cells) ≡ true = eq-eqb (length (flatMap cellBytes cells) % 16) 0 (omega (arith, length-cells-bytes cells)) in
-          let first = one-cell s c start in
-          let last = one-cell e d goal in
+          let first = read-cell s c start in
+          let last = read-cell e d goal in
           let size = ap length front ∙ length-cells-bytes cells ∙ ap (λ (k : ℕ). 16 * k) (length-map cs cellOf) in
-          record { size = size; verdict = rw (front, whole, first .0, last .0, sound, ruled, first .1, last .1, back) judged; bytes = subst Bytes (sym front) (cells-are-bytes cells) }
+          record {
+            size = size;
+            verdict = rw (front, whole, eq-eqb (length s) 16 (first .0), eq-eqb (length e) 16 (last .0), sound, ruled, first .1, last .1, back) judged;
+            bytes = subst Bytes (sym front) (cells-are-bytes cells);
+          }
 
       result-accepted : (x : Result) → searchOf c d known waiting limit rule rows ≡ x → Returns (answeredIn x l)
       result-accepted (none-found r) f said = absurd (not-found said)

@@ -141,7 +141,7 @@ childrenOf c = childrenBy (parityOf c) c
 
 -- ---- parent
 
--- half of a coordinate, rounded down: -3 to -2
+-- half of a coordinate, rounded down: -3 to -2 (`shrZ z 2` is the division by 2)
 abbrev pub half : ℤ → ℤ
 half z = shrZ z 2
 

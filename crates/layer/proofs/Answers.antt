@@ -6,7 +6,6 @@ use mathlib.Core.List.{List}
 use Prim.Native.Nat.{ℕ, suc, _+_, _-_, _/_, _≤_, _<_, min}
 use native.Mathlib.Omega.{arith}
 use borrow.Author.Tests.{le-leb, lt-leb, ne-eqb}
-use lib.Dec.{eqb, leb}
 use lib.ListN.{length}
 use Rattle.refusal.specs.declared.Cell.{Cell}
 use Rattle.refusal.specs.declared.Room.the-variants as room
@@ -15,7 +14,7 @@ use Rattle.words.specs.Word.{Bytes}
 use Rattle.cell.specs.declared.CellAnswer.{CellAnswer}
 use Rattle.cell.specs.declared.CellAnswer.the-variants as cell
 use Rattle.cell.specs.Bytes.{cellAt, fromBytesOf}
-use Rattle.layer.specs.Layer.{Row, nothing, held, mostCells, roomFor, rowsOf, isSound, heldOf, withRow, withoutCell, laid}
+use Rattle.layer.specs.Layer.{nothing, held, mostCells, roomFor, rowsOf, isSound, heldOf, withRow, withoutCell, laid}
 use Rattle.layer.specs.Laws.{sound-ascending, sound-room, rows-within}
 use Rattle.layer.specs.Map.{length-with-held, length-with-new, length-without-held, without-none}
 use Rattle.layer.specs.Bytes.{length-rowsFrom}

@@ -8,7 +8,6 @@ use lib.Dec.{leb, eqb}
 use lib.ListN.{length, take, drop, replicate}
 use Rattle.refusal.specs.declared.Cell.{Cell}
 use Rattle.refusal.specs.declared.Room.the-variants as room
-use Rattle.refusal.specs.declared.Refusal.{Refusal}
 use Rattle.refusal.specs.declared.Refusal.the-variants.{NoRoom, BadLayer}
 use Rattle.cell.specs.declared.CellAnswer.{CellAnswer}
 use Rattle.cell.specs.declared.CellAnswer.the-variants as cell

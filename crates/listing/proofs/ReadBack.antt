@@ -1,22 +1,35 @@
 -- Cells that are laid in a buffer are read back from it: a list of bytes that holds them, one after the other, has these cells. Assumes nothing.
 use mathlib.Core.Path.{_≡_, refl, sym, ap, _∙_}
+use mathlib.Core.Bool.{Bool, true, false, cond}
 use mathlib.Core.List.{List, [], _∷_, _++_, flatMap}
 use Prim.Native.Nat.{ℕ, zero, suc, _+_, _*_, _/_}
 use native.Mathlib.Omega.{arith}
+use borrow.Author.Tests.{eqb-true}
+use lib.Dec.{eqb}
 use lib.ListN.{length, take, drop}
 use lib.Seq.{take-at, drop-at}
 use Rattle.refusal.specs.declared.Cell.{Cell}
+use Rattle.refusal.specs.declared.Refusal.the-variants.{BadList}
 use Rattle.words.specs.Word.{Bytes, big, bytesOf, word}
 use Rattle.words.specs.Laws.{bytes-append, bytes-zeros, bytes-bytesOf, word-append-left, word-drop}
 use Rattle.lattice.specs.Tables.{Each}
 use Rattle.cell.specs.declared.CellAnswer.the-variants as cell
-use Rattle.cell.specs.Bytes.{cellAt, cellBytes}
+use Rattle.cell.specs.Bytes.{cellAt, cellBytes, fromBytesOf}
 use Rattle.cell.specs.Lists.{cellsFrom, cellsOf}
 use Rattle.cell.specs.Laws.{Words}
 use Rattle.cell.specs.BytesLaws.{sixteen-bytes, bytes-read-back}
 use Rattle.cell.specs.Stored.{length-cellBytes}
 use Rattle.listing.specs.Listing.{cellsLaid}
 use Rattle.listing.specs.Laws.{length-cells-bytes}
+
+-- bytes that are taken for a cell are sixteen, and the cell is theirs
+pub read-cell : (l : List ℕ) (c : Cell) → fromBytesOf l ≡ cell.Is c → (length l ≡ 16) × (cellAt l 0 ≡ c)
+unfolding fromBytesOf
+read-cell l c = by-length (eqb (length l) 16) (eqb-true (length l) 16)
+  where
+    by-length : (t : Bool) → (t ≡ true → length l ≡ 16) → cond t (cell.Is (cellAt l 0)) (cell.Refused BadList) ≡ cell.Is c → (length l ≡ 16) × (cellAt l 0 ≡ c)
+    by-length true f e = (f refl, cc)
+    by-length false f e = absurd (let z : _≡_ {A = ℕ} 0 1 = cc in omega arith)
 
 -- a cell's bytes, whatever follows them, make it again
 cell-back : (c : Cell) (m : List ℕ) → Words c → cellAt (cellBytes c ++ m) 0 ≡ c

@@ -1,6 +1,7 @@
--- Every refusal has a number above 0, so that 0 can say that a call answered. Assumes nothing.
-use mathlib.Core.Path.{_≡_}
+-- What a number that is told says of the refusal: 0 is none, so that it can say that a call answered; 7 is SearchLimitExceeded. Assumes nothing.
+use mathlib.Core.Path.{_≡_, refl}
 use native.Mathlib.Omega.{arith}
+use Rattle.refusal.specs.declared.Spent.{Spent}
 use Rattle.refusal.specs.declared.Refusal.{Refusal}
 use Rattle.refusal.specs.declared.Refusal.the-variants.{InvalidParity, NoParent, NoChildren, OutOfRange, NoValues, HasNan, SearchLimitExceeded, NoPathFound, CoordOverflow, NoRoom, BadWorkspace, BadFile, BadList, BadLayer, BadRule}
 use Rattle.refusal.specs.Table.{numberOf}
@@ -22,3 +23,21 @@ refused-number (BadFile p) h = omega arith
 refused-number BadList h = omega arith
 refused-number BadLayer h = omega arith
 refused-number BadRule h = omega arith
+
+-- what was spent is carried where 7 is told
+pub numbered-seven : (r : Refusal) → numberOf r ≡ 7 → (spent : Spent) × (r ≡ SearchLimitExceeded spent)
+numbered-seven (InvalidParity c) h = absurd (omega arith)
+numbered-seven NoParent h = absurd (omega arith)
+numbered-seven NoChildren h = absurd (omega arith)
+numbered-seven OutOfRange h = absurd (omega arith)
+numbered-seven NoValues h = absurd (omega arith)
+numbered-seven HasNan h = absurd (omega arith)
+numbered-seven (SearchLimitExceeded s) h = (s, refl)
+numbered-seven (NoPathFound e) h = absurd (omega arith)
+numbered-seven CoordOverflow h = absurd (omega arith)
+numbered-seven (NoRoom r) h = absurd (omega arith)
+numbered-seven BadWorkspace h = absurd (omega arith)
+numbered-seven (BadFile p) h = absurd (omega arith)
+numbered-seven BadList h = absurd (omega arith)
+numbered-seven BadLayer h = absurd (omega arith)
+numbered-seven BadRule h = absurd (omega arith)

@@ -18,3 +18,11 @@ OneExit n ps r Post =
     let T = endedOf n ps r in
     (κs : Lfts n) (a : Dens κs ps) (z z′ : resT r κs .Denot) (last last′ : Lasts T κs a)
     → Post κs a z (atExit T κs a last) → Post κs a z′ (atExit T κs a last′) → atExit T κs a last ≡ atExit T κs a last′
+
+-- a call that meets the contract: its arguments, its answer, and what stands in the lent memory when it returns. A theorem about a function's calls takes one
+pub record Call (n : ℕ) (ps : List (PK n)) (r : RK n) (Post : Out n ps r) : Type 0 where
+  pub lifetimes : Lfts n
+  pub arguments : Dens lifetimes ps
+  pub told : resT r lifetimes .Denot
+  pub exit : AtExit (endedOf n ps r) lifetimes
+  pub meets : Post lifetimes arguments told exit

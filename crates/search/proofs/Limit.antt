@@ -52,7 +52,7 @@ module _ (P : Problem) (refuses : Refuses P (AtLimit (P .limit))) (nowhere : AtL
   looking-within : (c g : ℕ) (ns : List ℕ) (s : State) → Few s → Within (relaxAll P c g ns s)
   looking-within c g ns s few =
       keeping-follows Few Few (Any P) (AtLimit (P .limit)) (λ t h. h) (relaxAll P c g ns s)
-      (relaxAll-keeping P (AtLimit (P .limit)) refuses c g (λ (n : ℕ). Unit {0}) Few (λ n h t near few l room. few) ns s (each-any P ns) few)
+      (relaxAll-keeping P (AtLimit (P .limit)) refuses c g (λ (n : ℕ). Unit {0}) Few (λ n h t ahead near few l room. few) ns s (each-any P ns) few)
 
   popped-within : (c : ℕ) (rest : List Entry) (s : State) → Few s → Within (popped P c rest s)
   unfolding arrived

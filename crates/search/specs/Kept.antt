@@ -65,10 +65,14 @@ pub record HasRoom (P : Problem) (n : ℕ) (s : State) : Type 0 where
   pub known-room : (isKnown (find n (s .known)) || ltb (length (s .known)) (P .knownRoom)) ≡ true
   pub waiting-room : ltb (length (s .waiting)) (P .waitingRoom) ≡ true
 
-module _ (P : Problem) (c g : ℕ) (Near : ℕ → Type 0) (Holds : State → Type 0)
-    (pushes : (n h : ℕ) (s : State) → P .ahead n ≡ is h → Near n → Holds s → Lowered P n (plus g (P .cost c n)) s → HasRoom P n s → Holds (pushed P c n (plus g (P .cost c n)) h s)) where
-  abbrev pub Keeps : Flow → Type 0
-  Keeps = Holding Holds Unfound
+-- every push keeps it
+abbrev pub Pushes : Problem → ℕ → ℕ → (ℕ → Type 0) → (State → Type 0) → Type 0
+Pushes P c g Near Holds =
+    (n h : ℕ) (s : State) → P .ahead n ≡ is h → Near n → Holds s → Lowered P n (plus g (P .cost c n)) s → HasRoom P n s → Holds (pushed P c n (plus g (P .cost c n)) h s)
+
+module _ (P : Problem) (Refused : Refusal → Type 0) (refuses : Refuses P Refused) (c g : ℕ) (Near : ℕ → Type 0) (Holds : State → Type 0) (pushes : Pushes P c g Near Holds) where
+  abbrev Keeps : Flow → Type 0
+  Keeps = Keeping Holds Unfound Refused
 
   module _ (n : ℕ) (s : State) (near : Near n) (h : Holds s) where
     -- the g of n by way of c, and what is known of n
@@ -78,12 +82,12 @@ module _ (P : Problem) (c g : ℕ) (Near : ℕ → Type 0) (Holds : State → Ty
     abbrev k : Option Row
     k = find n (s .known)
 
-    push-keeps : Lowered P n t s → (isKnown k || ltb (length (s .known)) (P .knownRoom)) ≡ true → (a : Told ℕ) → P .ahead n ≡ a → Keeps (push P c n t s a)
-    push-keeps l room (refused r) e = tt
-    push-keeps l room (is a) e =
+    push-keeping : Lowered P n t s → (isKnown k || ltb (length (s .known)) (P .knownRoom)) ≡ true → (a : Told ℕ) → P .ahead n ≡ a → Keeps (push P c n t s a)
+    push-keeping l room (refused r) e = refuses .of-ahead n r e
+    push-keeping l room (is a) e =
         on-test Keeps (ltb (length (s .waiting)) (P .waitingRoom)) (going (pushed P c n t a s)) (stopped (NoRoom Waiting))
         (λ q. pushes n a s e near h l (record { known-room = room; waiting-room = q }))
-        (λ q. tt)
+        (λ q. refuses .of-room Waiting)
 
     pub relax-keeping : Keeps (relax P c g n s)
     unfolding relax tried lower
@@ -91,8 +95,8 @@ module _ (P : Problem) (c g : ℕ) (Near : ℕ → Type 0) (Holds : State → Ty
         on-test Keeps (isClosed k || P .shut n) (going s) (cond (less t (gOf k)) (lower P c n t s k) (going s)) (λ e. h)
         (λ e. on-test Keeps (less t (gOf k)) (lower P c n t s k) (going s)
         (λ f. on-test Keeps (isKnown k || ltb (length (s .known)) (P .knownRoom)) (push P c n t s (P .ahead n)) (stopped (NoRoom Known))
-        (λ room. let o = neither (isClosed k) (P .shut n) e in push-keeps (record { not-closed = o .0; not-shut = o .1; falls = f }) room (P .ahead n) refl)
-        (λ room. tt))
+        (λ room. let o = neither (isClosed k) (P .shut n) e in push-keeping (record { not-closed = o .0; not-shut = o .1; falls = f }) room (P .ahead n) refl)
+        (λ room. refuses .of-room Known))
         (λ f. h))
 
   then-keeping : (f : Flow) (next : State → Flow) → Keeps f → ((s : State) → Holds s → Keeps (next s)) → Keeps (andThen f next)

@@ -13,8 +13,8 @@ pub mod Trails
 pub mod Besides
 mod Judged
 pub mod Counted
-mod LargerRooms
-mod Shortages
-mod Refusals
-mod OneMore
+pub mod LargerRooms
+pub mod Shortages
+pub mod Refusals
+pub mod OneMore
 pub mod Costs

@@ -30,7 +30,7 @@ unfoldable pub scaled : Point → ℕ → Point
 unfolding mul
 scaled p resolution = let s = fin false 1 (pos resolution) in point (mul binary64 (p .x) s) (mul binary64 (p .y) s) (mul binary64 (p .z) s)
 
--- from -2147483646 to 2147483646; a NaN is not, and no infinity is
+-- from -2147483646 to 2147483646, which is 1073741823 times two; a NaN is not, and no infinity is
 abbrev pub inRange : Float → Bool
 inRange v = le (fin true 1073741823 (pos 1)) v && le v (fin false 1073741823 (pos 1))
 

@@ -4,15 +4,13 @@ use mathlib.Core.Path.{_≡_, refl, sym, ap, subst, _∙_}
 use mathlib.Core.Logic.{_↔_}
 use mathlib.Core.List.{List}
 use Prim.Native.Nat.{ℕ, _*_}
-use native.Mathlib.Omega.{arith}
 use lib.ListN.{length, take}
 use contract.Lifetimes.{Lfts}
 use denote.Ref.{now}
 use denote.Triple.Clauses.{AtExit}
 use borrow.Fn.Kinds.{Dens, resT, endedOf}
 use Rattle.words.specs.Word.{Bytes}
-use Rattle.refusal.specs.declared.Refusal.{Refusal}
-use Rattle.refusal.specs.declared.Refusal.the-variants.{InvalidParity, NoParent, NoChildren, OutOfRange, NoValues, HasNan, SearchLimitExceeded, NoPathFound, CoordOverflow, NoRoom, BadWorkspace, BadFile, BadList, BadLayer, BadRule}
+use Rattle.refusal.proofs.Numbers.{refused-number}
 use Rattle.route.specs.Route.{verdictOf}
 use Rattle.route.specs.Accepted.{Demand3}
 use Rattle.route.specs.Demand.{accepted-exactly}
@@ -23,7 +21,7 @@ use Rattle.search.specs.declared.SearchAnswer.the-variants as answer
 use Rattle.astar.specs.Call.{searchIn}
 use Rattle.astar.proofs.Returned.{returned-size, returned-accepted, returned-right}
 use Rattle.told.specs.declared.SearchTold.{SearchTold}
-use Rattle.told.specs.Searches.{routeTold, noRoute, ofSearch, SearchingTold, searchTold, ofSearched}
+use Rattle.told.specs.Searches.{routeTold, ofSearch, SearchingTold, searchTold, ofSearched}
 use Rattle.tishkolan.proofs.routes.tishkolan_route_verdict.Kinds as verdict-kinds
 use Rattle.tishkolan.proofs.routes.tishkolan_route_verdict.Reads as verdict
 use Rattle.tishkolan.proofs.routes.tishkolan_route_choice.Kinds as choice-kinds
@@ -115,25 +113,7 @@ pub record AcceptedRoute (cells start goal : List ℕ) (cost : ℕ) (flags : Lis
   pub checked : (κs : Lfts 4) (a : Dens κs verdict-kinds.ps) (z : resT verdict-kinds.r κs .Denot) (e : AtExit (endedOf 4 verdict-kinds.ps verdict-kinds.r) κs)
       → verdict.Post κs a z e → Handed κs a cells start goal cost flags count rule → z ≡ 0
 
--- every refusal has a number above 0
-refused-number : (r : Refusal) → noRoute r .refusal .number ≡ 0 → ⊥
-refused-number (InvalidParity c) h = omega arith
-refused-number NoParent h = omega arith
-refused-number NoChildren h = omega arith
-refused-number OutOfRange h = omega arith
-refused-number NoValues h = omega arith
-refused-number HasNan h = omega arith
-refused-number (SearchLimitExceeded s) h = omega arith
-refused-number (NoPathFound e) h = omega arith
-refused-number CoordOverflow h = omega arith
-refused-number (NoRoom r) h = omega arith
-refused-number BadWorkspace h = omega arith
-refused-number (BadFile p) h = omega arith
-refused-number BadList h = omega arith
-refused-number BadLayer h = omega arith
-refused-number BadRule h = omega arith
-
--- so 0 is told of a route alone
+-- 0 is told of a route alone
 answered-found : (x : SearchAnswer) → ofSearch x .refusal .number ≡ 0 → (r : Route) × (x ≡ answer.Found r)
 answered-found (answer.Found r) h = (r, refl)
 answered-found (answer.Refused r) h = absurd (refused-number r h)

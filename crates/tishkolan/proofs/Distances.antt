@@ -1,11 +1,9 @@
 -- Demand 2 of the two distances that C calls, over the contracts that Rattle made of the source: where the refusal told is 0, the bits told are those of the f64 nearest to the true
 -- square root of the sum of the squares, each square and sum rounded in source order (`lattice-distance-nearest`, `cell-distance-nearest`). Assumes nothing.
 use mathlib.Core.Path.{_≡_, refl, sym, ap, subst}
-use mathlib.Core.Bool.{Bool, true, false, cond}
+use mathlib.Core.Bool.{false}
 use mathlib.Core.List.{List}
 use Prim.Native.Nat.{ℕ}
-use native.Mathlib.Omega.{arith}
-use lib.Dec.{eqb}
 use lib.IntN.{pos}
 use lib.Ieee.{fin, binary64, ofBits, toBits}
 use lib.Ieee.Bits.{ofBits-toBits}
@@ -13,11 +11,8 @@ use lib.ListN.{length}
 use contract.Lifetimes.{Lfts}
 use denote.Triple.Clauses.{AtExit}
 use borrow.Fn.Kinds.{Dens, resT, endedOf}
-use borrow.Author.Tests.{eqb-true}
-use Rattle.refusal.specs.declared.Cell.{Cell}
 use Rattle.refusal.specs.declared.Coord.{Coord}
-use Rattle.refusal.specs.declared.Refusal.{Refusal}
-use Rattle.refusal.specs.declared.Refusal.the-variants.{InvalidParity, NoParent, NoChildren, OutOfRange, NoValues, HasNan, SearchLimitExceeded, NoPathFound, CoordOverflow, NoRoom, BadWorkspace, BadFile, BadList, BadLayer, BadRule}
+use Rattle.refusal.proofs.Numbers.{refused-number}
 use Rattle.lattice.specs.Lattice.{at}
 use Rattle.distance.specs.declared.DistanceAnswer.{DistanceAnswer}
 use Rattle.distance.specs.declared.DistanceAnswer.the-variants as distance
@@ -28,8 +23,9 @@ use Rattle.cell.specs.declared.CellAnswer.{CellAnswer}
 use Rattle.cell.specs.declared.CellAnswer.the-variants.{Is, Refused}
 use Rattle.cell.specs.Cell.{coordOf, distanceCells}
 use Rattle.cell.specs.Bytes.{cellAt, fromBytesOf}
+use Rattle.listing.proofs.ReadBack.{read-cell}
 use Rattle.told.specs.declared.BitsTold.{BitsTold}
-use Rattle.told.specs.Told.{toldOf, bitsTold, noBits, ofDistance}
+use Rattle.told.specs.Told.{bitsTold, noBits, ofDistance}
 use Rattle.tishkolan.specs.Cells.{byCell, distanceTold}
 use Rattle.tishkolan.proofs.points.tishkolan_lattice_distance.Kinds as lattice-kinds
 use Rattle.tishkolan.proofs.points.tishkolan_lattice_distance.Reads as lattice
@@ -37,24 +33,6 @@ use Rattle.tishkolan.proofs.cells.tishkolan_cell_distance.Kinds as cell
 use Rattle.tishkolan.proofs.cells.tishkolan_cell_distance.Reads as cell
 
 -- ---- what is told
-
--- no refusal is told as 0
-number-not-zero : (r : Refusal) → toldOf r .number ≡ 0 → ⊥
-number-not-zero (InvalidParity c) h = omega arith
-number-not-zero NoParent h = omega arith
-number-not-zero NoChildren h = omega arith
-number-not-zero OutOfRange h = omega arith
-number-not-zero NoValues h = omega arith
-number-not-zero HasNan h = omega arith
-number-not-zero (SearchLimitExceeded s) h = omega arith
-number-not-zero (NoPathFound e) h = omega arith
-number-not-zero CoordOverflow h = omega arith
-number-not-zero (NoRoom r) h = omega arith
-number-not-zero BadWorkspace h = omega arith
-number-not-zero (BadFile p) h = omega arith
-number-not-zero BadList h = omega arith
-number-not-zero BadLayer h = omega arith
-number-not-zero BadRule h = omega arith
 
 -- the number that bits stand for is the distance of two places, correctly rounded
 abbrev pub Nearest : Coord → Coord → ℕ → Type 0
@@ -64,7 +42,7 @@ told-nearest : (a b : Coord) → ofDistance (distanceOf a b) .refusal .number �
 told-nearest a b = by-answer (distanceOf a b) refl
   where
     by-answer : (d : DistanceAnswer) → distanceOf a b ≡ d → ofDistance d .refusal .number ≡ 0 → Nearest a b (ofDistance d .bits)
-    by-answer (distance.Refused r) e h = absurd (number-not-zero r h)
+    by-answer (distance.Refused r) e h = absurd (refused-number r h)
     by-answer (distance.Is d) e h =
         let n = distance-nearest a b d e in subst (NearestRoot (squaredDistance a b)) (sym (ofBits-toBits binary64 d (n .representable))) n
 
@@ -87,15 +65,6 @@ pub record CellsNearest (first second : List ℕ) (bits : ℕ) : Type 0 where
   pub second-cell : length second ≡ 16
   pub nearest : Nearest (coordOf (cellAt first 0)) (coordOf (cellAt second 0)) bits
 
--- bytes that are taken for a cell are 16, and the cell is theirs
-read-cell : (l : List ℕ) (c : Cell) → fromBytesOf l ≡ Is c → (length l ≡ 16) × (c ≡ cellAt l 0)
-unfolding fromBytesOf
-read-cell l c = go (eqb (length l) 16) (eqb-true (length l) 16)
-  where
-    go : (t : Bool) → (t ≡ true → length l ≡ 16) → cond t (Is (cellAt l 0)) (Refused BadList) ≡ Is c → (length l ≡ 16) × (c ≡ cellAt l 0)
-    go true f e = (f refl, cc)
-    go false f e = absurd (let z : _≡_ {A = ℕ} 0 1 = cc in omega arith)
-
 -- what is told of two cells, or of the refusal of either
 abbrev said : CellAnswer → CellAnswer → BitsTold
 said x y = byCell noBits (λ a. byCell noBits (λ b. ofDistance (distanceCells a b)) y) x
@@ -105,16 +74,16 @@ unfolding distanceTold
 cells-told-nearest first second = by (fromBytesOf first) (fromBytesOf second) refl refl
   where
     by : (x y : CellAnswer) → fromBytesOf first ≡ x → fromBytesOf second ≡ y → said x y .refusal .number ≡ 0 → CellsNearest first second (said x y .bits)
-    by (Refused r) y e f h = absurd (number-not-zero r h)
-    by (Is a) (Refused r) e f h = absurd (number-not-zero r h)
+    by (Refused r) y e f h = absurd (refused-number r h)
+    by (Is a) (Refused r) e f h = absurd (refused-number r h)
     by (Is a) (Is b) e f h =
         let one = read-cell first a e in
         let other = read-cell second b f in
         record {
           first-cell = one .0;
           second-cell = other .0;
-          nearest = subst (λ (p : Coord). Nearest p (coordOf (cellAt second 0)) (said (Is a) (Is b) .bits)) (ap coordOf (one .1))
-              (subst (λ (q : Coord). Nearest (coordOf a) q (said (Is a) (Is b) .bits)) (ap coordOf (other .1)) (told-nearest (coordOf a) (coordOf b) h));
+          nearest = subst (λ (p : Coord). Nearest p (coordOf (cellAt second 0)) (said (Is a) (Is b) .bits)) (sym (ap coordOf (one .1)))
+              (subst (λ (q : Coord). Nearest (coordOf a) q (said (Is a) (Is b) .bits)) (sym (ap coordOf (other .1))) (told-nearest (coordOf a) (coordOf b) h));
         }
 
 module _ (κs : Lfts 2) (a : Dens κs cell-kinds.ps) (t : resT cell-kinds.r κs .Denot) (e : AtExit (endedOf 2 cell-kinds.ps cell-kinds.r) κs) where

@@ -88,6 +88,7 @@ pub record KnownPoints : Type 0 where
   -- snap at 0: (0.5,0.5,0.5) to (0,0,0); (-1,0,0) to (-2,0,0); (2147483646,0,0) stands, 2147483646.5 refused
   pub tie : snapOf (point half half half) 0 ≡ At (at (pos 0) (pos 0) (pos 0))
   pub away : snapOf (point (fin true 1 (pos 0)) nought nought) 0 ≡ At (at (negsuc 1) (pos 0) (pos 0))
+  -- 2147483646 is 1073741823 times two, and 2147483646.5 is half of 4294967293
   pub last : snapOf (point (fin false 1073741823 (pos 1)) nought nought) 0 ≡ At (at (pos 2147483646) (pos 0) (pos 0))
   pub past : snapOf (point (fin false 4294967293 (negsuc 0)) nought nought) 0 ≡ Refused OutOfRange
   -- root of 3.0: 0x3FFBB67AE8584CAA

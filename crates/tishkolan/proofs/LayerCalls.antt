@@ -3,10 +3,8 @@
 use mathlib.Core.Path.{_≡_}
 use mathlib.Core.List.{List, [], _∷_}
 use Prim.Native.Nat.{ℕ}
-use contract.Lifetimes.{Lfts}
 use denote.Ref.{now}
-use denote.Triple.Clauses.{AtExit}
-use borrow.Fn.Kinds.{PK, RK, Out, Dens, resT, endedOf}
+use Rattle.refusal.specs.OneAnswer.{Call}
 use Rattle.aggregate.specs.declared.Aggregation.{Aggregation}
 use Rattle.tishkolan.specs.declared.aggregates.Asked.the-variants.{For, Unknown}
 use Rattle.tishkolan.specs.Aggregates.{aggregationOf}
@@ -31,16 +29,6 @@ use Rattle.tishkolan.proofs.aggregates.tishkolan_values_rollup.Kinds as
 use Rattle.tishkolan.proofs.aggregates.tishkolan_values_rollup.Reads as values-rollup
 use Rattle.tishkolan.proofs.surveys.tishkolan_survey_load.Kinds as survey-load-kinds
 use Rattle.tishkolan.proofs.surveys.tishkolan_survey_load.Reads as survey-load
-
--- a call that meets a contract
-pub record Call (n : ℕ) (ps : List (PK n)) (r : RK n) (Post : Out n ps r) : Type 0 where
-  pub lifetimes : Lfts n
-  pub arguments : Dens lifetimes ps
-  pub told : resT r lifetimes .Denot
-  pub exit : AtExit (endedOf n ps r) lifetimes
-  pub meets : Post lifetimes arguments told exit
-
--- ---- of each call
 
 abbrev pub FlagsSet : Type 0
 FlagsSet = Call 2 flags-set-kinds.ps flags-set-kinds.r flags-set.Post

@@ -17,4 +17,8 @@ pub mod RingSaid
 pub mod OneAnswerRings
 pub mod SearchSaid
 pub mod OneAnswerSearches
+pub mod Limits
+pub mod Parents
 pub mod Distances
+pub mod Packing
+pub mod Filling

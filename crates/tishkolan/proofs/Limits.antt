@@ -8,16 +8,18 @@ use contract.Lifetimes.{Lfts}
 use denote.Triple.Clauses.{AtExit}
 use borrow.Fn.Kinds.{Dens, resT, endedOf}
 use Rattle.refusal.specs.declared.Spent.{Spent}
+use Rattle.refusal.specs.declared.Refusal.{Refusal}
+use Rattle.refusal.specs.declared.Refusal.the-variants.{SearchLimitExceeded}
 use Rattle.refusal.specs.Table.{rawOf}
+use Rattle.refusal.proofs.Numbers.{numbered-seven}
 use Rattle.words.specs.Word.{word, number, ordered}
 use Rattle.cell.specs.Cell.{packed}
 use Rattle.search.specs.Plan.{searchOf}
-use Rattle.refusal.specs.declared.Refusal.the-variants.{InvalidParity, NoParent, NoChildren, OutOfRange, NoValues, HasNan, SearchLimitExceeded, NoPathFound, CoordOverflow, NoRoom, BadWorkspace, BadFile, BadList, BadLayer, BadRule}
 use Rattle.search.specs.declared.SearchAnswer.{SearchAnswer}
 use Rattle.search.specs.declared.SearchAnswer.the-variants as answer
 use Rattle.search.proofs.Limit.{OneBeyond}
 use Rattle.told.specs.declared.SearchTold.{SearchTold}
-use Rattle.told.specs.Searches.{ofSearch, ofSearched, searchTold, SearchingTold}
+use Rattle.told.specs.Searches.{noRoute, ofSearch, ofSearched, searchTold, SearchingTold}
 use Rattle.astar.specs.Call.{hasRooms, searchIn}
 use Rattle.astar.proofs.Limit.{call-one-beyond}
 use Rattle.tishkolan.proofs.searches.tishkolan_astar.Kinds as astar-kinds
@@ -34,21 +36,14 @@ record Exceeded (a : SearchAnswer) (t : SearchTold) : Type 0 where
 
 seven : (a : SearchAnswer) → ofSearch a .refusal .number ≡ 7 → Exceeded a (ofSearch a)
 seven (answer.Found r) e = absurd (omega arith)
-seven (answer.Refused (InvalidParity c)) e = absurd (omega arith)
-seven (answer.Refused NoParent) e = absurd (omega arith)
-seven (answer.Refused NoChildren) e = absurd (omega arith)
-seven (answer.Refused OutOfRange) e = absurd (omega arith)
-seven (answer.Refused NoValues) e = absurd (omega arith)
-seven (answer.Refused HasNan) e = absurd (omega arith)
-seven (answer.Refused (SearchLimitExceeded s)) e = record { spent = s; refused = refl; expansions = refl; limit = refl }
-seven (answer.Refused (NoPathFound s)) e = absurd (omega arith)
-seven (answer.Refused CoordOverflow) e = absurd (omega arith)
-seven (answer.Refused (NoRoom r)) e = absurd (omega arith)
-seven (answer.Refused BadWorkspace) e = absurd (omega arith)
-seven (answer.Refused (BadFile p)) e = absurd (omega arith)
-seven (answer.Refused BadList) e = absurd (omega arith)
-seven (answer.Refused BadLayer) e = absurd (omega arith)
-seven (answer.Refused BadRule) e = absurd (omega arith)
+seven (answer.Refused r) e =
+    let told = numbered-seven r e in
+    record {
+      spent = told .0;
+      refused = ap answer.Refused (told .1);
+      expansions = ap (λ (why : Refusal). noRoute why .expansions) (told .1);
+      limit = ap (λ (why : Refusal). noRoute why .limit) (told .1);
+    }
 
 -- one expansion more than the limit, and the limit
 pub record LimitTold (limit : ℕ) (t : SearchTold) : Type 0 where

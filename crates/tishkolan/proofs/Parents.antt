@@ -1,21 +1,16 @@
 -- Of the calls for C: where one tells a point's parent and another lists the children of that parent, the point is among the eight places that are listed. Over their own contracts, by those
 -- of the lattice's calls. Assumes nothing.
 use mathlib.Core.Path.{_≡_, refl, sym, ap, subst, _∙_}
-use mathlib.Core.Bool.{Bool, true, false, cond}
 use mathlib.Core.List.{List, [], _∷_, _++_, flatMap, List·Memᴰ, List·Memᴰ·head, List·Memᴰ·tail}
 use Prim.Native.Nat.{ℕ, suc, _*_, _<_}
 use native.Mathlib.Omega.{arith}
 use contract.Lifetimes.{Lfts}
 use denote.Triple.Clauses.{AtExit}
 use borrow.Fn.Kinds.{Dens, resT, endedOf}
-use lib.Dec.{leb}
 use lib.IntN.{ℤ, pos}
 use lib.ListN.{length, take, drop, replicate}
 use Rattle.refusal.specs.declared.Coord.{Coord}
-use Rattle.refusal.specs.declared.Room.the-variants.{Output}
-use Rattle.refusal.specs.declared.Refusal.{Refusal}
-use Rattle.refusal.specs.declared.Refusal.the-variants.{InvalidParity, NoParent, NoChildren, OutOfRange, NoValues, HasNan, SearchLimitExceeded, NoPathFound, CoordOverflow, NoRoom, BadWorkspace, BadFile, BadList, BadLayer, BadRule}
-use Rattle.refusal.specs.declared.Outcome.{Outcome}
+use Rattle.refusal.proofs.Numbers.{refused-number}
 use Rattle.refusal.specs.declared.Outcome.the-variants as outcome
 use Rattle.lattice.specs.declared.CoordAnswer.{CoordAnswer}
 use Rattle.lattice.specs.declared.CoordAnswer.the-variants as coord
@@ -23,45 +18,19 @@ use Rattle.lattice.specs.Lattice.{at, isLatticePoint, parityOf, childSteps, chi
 use Rattle.lattice.proofs.OneParent.{told-among-children}
 use Rattle.told.specs.declared.RefusalTold.{RefusalTold}
 use Rattle.told.specs.declared.CoordTold.{CoordTold}
-use Rattle.told.specs.Told.{answered, toldOf, ofCoord, Filled, filled, fronted, fill}
+use Rattle.told.specs.Told.{ofCoord, filled}
 use Rattle.tishkolan.specs.Points.{triple, triples, childrenTold}
 use Rattle.tishkolan.proofs.Places.{children-long}
+use Rattle.tishkolan.proofs.Filling.{front-filled}
 use Rattle.tishkolan.proofs.points.tishkolan_lattice_parent.Kinds as parent-kinds
 use Rattle.tishkolan.proofs.points.tishkolan_lattice_parent.Reads as parent
 use Rattle.tishkolan.proofs.points.tishkolan_lattice_children.Kinds as children-kinds
 use Rattle.tishkolan.proofs.points.tishkolan_lattice_children.Reads as children
 
--- no refusal is told as 0
-refusal-told : (r : Refusal) → toldOf r .number ≡ 0 → ⊥
-refusal-told (InvalidParity c) e = omega arith
-refusal-told NoParent e = omega arith
-refusal-told NoChildren e = omega arith
-refusal-told OutOfRange e = omega arith
-refusal-told NoValues e = omega arith
-refusal-told HasNan e = omega arith
-refusal-told (SearchLimitExceeded s) e = omega arith
-refusal-told (NoPathFound s) e = omega arith
-refusal-told CoordOverflow e = omega arith
-refusal-told (NoRoom r) e = omega arith
-refusal-told BadWorkspace e = omega arith
-refusal-told (BadFile p) e = omega arith
-refusal-told BadList e = omega arith
-refusal-told BadLayer e = omega arith
-refusal-told BadRule e = omega arith
-
 -- what is told as an answer is the place
 place-told : (a : CoordAnswer) (t : CoordTold) → t ≡ ofCoord a → t .refusal .number ≡ 0 → a ≡ coord.At (at (t .x) (t .y) (t .z))
-place-told (coord.Refused r) t told e = absurd (refusal-told r (sym (ap (λ (s : CoordTold). s .refusal .number) told) ∙ e))
+place-told (coord.Refused r) t told e = absurd (refused-number r (sym (ap (λ (s : CoordTold). s .refusal .number) told) ∙ e))
 place-told (coord.At c) t told e = λ i. coord.At (at (sym told i .x) (sym told i .y) (sym told i .z))
-
--- what is told as filled was answered, and stands at the front
-front-told : (o : Outcome) (l out last : List ℤ) (t : RefusalTold) → filled t last ≡ fill o l out → t .number ≡ 0 → (o ≡ outcome.Answered) × (last ≡ fronted l out)
-front-told (outcome.Refused r) l out last t post e = absurd (refusal-told r (sym (ap (λ (s : Filled ℤ). s .told .number) post) ∙ e))
-front-told outcome.Answered l out last t post e = (refl, by-room (leb (length l) (length out)) post)
-  where
-    by-room : (b : Bool) → filled t last ≡ cond b (filled answered (fronted l out)) (filled (toldOf (NoRoom Output)) out) → last ≡ fronted l out
-    by-room true p = ap (λ (s : Filled ℤ). s .out) p
-    by-room false p = absurd (refusal-told (NoRoom Output) (sym (ap (λ (s : Filled ℤ). s .told .number) p) ∙ e))
 
 -- a place of a list stands in its numbers
 triple-at : {c : Coord} (l : List Coord) (rest : List ℤ) → List·Memᴰ c l → (k : ℕ) × (k < length l) × (take 3 (drop (3 * k) (triples l ++ rest)) ≡ triple c)
@@ -81,7 +50,7 @@ listed : (c p : Coord) (out last : List ℤ) (t : RefusalTold) → parentOf c �
 unfolding childrenTold
 listed c p out last t e post told =
     let places = childrenOf p .coords in
-    let front = front-told (childrenOf p .outcome) (triples places) out last t post told in
+    let front = front-filled t (triples places) out last told (childrenOf p .outcome) post in
     let h = triple-at places (drop (length (triples places)) out) (among c p e (front .0)) in
     (h .0, omega (arith, h .1, children-long p), subst (λ (l : List ℤ). take 3 (drop (3 * h .0) l) ≡ triple c) (sym (front .1)) (h .2))
 

@@ -11,15 +11,16 @@ use Rattle.cell.specs.Bytes.{fromBytesOf}
 use Rattle.layer.specs.Layer.{Held, nothing, held, roomFor, rowsOf, heldOf, isSound}
 use Rattle.told.specs.declared.CountTold.{CountTold}
 use Rattle.told.specs.declared.KeptTold.{KeptTold}
-use Rattle.told.specs.Told.{telling, zeroCoord}
+use Rattle.told.specs.Told.{telling}
+use Rattle.refusal.specs.Table.{noCoord}
 
 -- a number of a refusal and its room, and the count
 abbrev pub tellingCount : ℕ → ℕ → ℕ → CountTold
-tellingCount number room n = record { refusal = telling number room zeroCoord; count = n }
+tellingCount number room n = record { refusal = telling number room noCoord; count = n }
 
 -- a number of a refusal, whether the cell was found, what was kept of it, and the count
 abbrev pub tellingKept : ℕ → ℕ → ℕ → ℕ → KeptTold
-tellingKept number found k n = record { refusal = telling number 0 zeroCoord; found = found; kept = k; count = n }
+tellingKept number found k n = record { refusal = telling number 0 noCoord; found = found; kept = k; count = n }
 
 -- what C is told of a get: what is kept of the cell, if anything, and the count
 abbrev pub heldTold : Held → ℕ → KeptTold
