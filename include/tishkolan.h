@@ -2,8 +2,9 @@
  *
  * Every call takes all numbers, bytes and lengths, ends, and answers or refuses. It keeps nothing
  * between calls, allocates nothing and calls nothing but memcpy and memset; what it needs, you lend,
- * but for its stack: as measured on x86-64, tishkolan_values_rollup takes 91 KiB, tishkolan_survey_load
- * 64, tishkolan_cell_ancestor 45 at most, tishkolan_values_aggregate 9, every other call under 2.
+ * but for its stack. Measured once, on x86-64 and an earlier archive: tishkolan_values_rollup 91 KiB,
+ * tishkolan_survey_load 64, tishkolan_cell_ancestor 45, tishkolan_values_aggregate 9, the search 2, rings,
+ * lines, the checker and tishkolan_survey_write under 1. Of the other calls there is no figure.
  *
  * A cell is 16 bytes, big-endian: z, y, x (32 bits each, two's complement), then
  * reserved (4 bits), flags (8), exponent (4), resolution (8), frame (8).
