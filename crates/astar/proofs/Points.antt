@@ -1,6 +1,6 @@
--- Bytes that no search left, at the end of one, computed: one known cell, the cell 0, which is the goal, with room for no other. Assumes nothing.
+-- Bytes that no search left, at the end of one, computed: one known cell, the cell 0, which is the goal, with room for no other.
 use mathlib.Core.Path.{_≡_, refl}
-use mathlib.Core.List.{List, [], _∷_, _++_}
+use mathlib.Core.List.{List, _∷_, _++_}
 use Prim.Native.Nat.{ℕ}
 use lib.ListN.{replicate}
 use Rattle.refusal.specs.declared.Cell.{Cell}
@@ -8,15 +8,15 @@ use Rattle.refusal.specs.declared.Room.the-variants as room
 use Rattle.refusal.specs.declared.Refusal.{Refusal}
 use Rattle.refusal.specs.declared.Refusal.the-variants.{NoRoom, BadWorkspace}
 use Rattle.words.specs.Word.{word, number, ordered}
-use Rattle.layer.specs.Changes.{Changed, changed}
-use Rattle.known.specs.Known.{mixedOf, bucketOf, cellIn}
-use Rattle.known.specs.Seek.{seekIn, findIn}
+use Rattle.general.specs.Changed.{Changed, changed}
+use Rattle.known.specs.Inner.Known.{mixedOf, bucketOf, cellIn}
+use Rattle.known.specs.Inner.Seek.{seekIn, findIn}
 use Rattle.search.specs.declared.SearchAnswer.{SearchAnswer}
 use Rattle.search.specs.declared.SearchAnswer.the-variants as answer
 use Rattle.expansion.specs.declared.Plan.{Plan}
 use Rattle.expansion.specs.declared.Step.the-variants as step
-use Rattle.expansion.specs.Bytes.{sizesOf}
-use Rattle.astar.specs.Bytes.{wayIn, endIn}
+use Rattle.expansion.specs.Inner.Bytes.{sizesOf}
+use Rattle.astar.specs.Inner.Bytes.{wayIn, endIn}
 
 abbrev planFrom : Cell → Plan
 planFrom start = record { start = start; goal = record { high = 0; low = 0 }; known = 1; waiting = 1; limit = 9; rule = 0 }

@@ -1,10 +1,8 @@
 // The way back from the goal: a route is read from the last record to the first, and written from its end. Bytes that hold no way back are refused.
 ghost use mathlib.Core.Path.{_≡_};
-ghost use Prim.Native.Nat.{_≤_, _<_};
-ghost use Rattle.layer.specs.Changes.{changed};
-ghost use Rattle.listing.specs.Listing.{roomIn};
-ghost use Rattle.astar.specs.declared.way.Length.the-variants.{Cells};
-ghost use Rattle.astar.specs.Bytes.{Sized, wayBack, lengthOf, laidIn, answerIn};
+ghost use Prim.Native.Nat.{_<_};
+ghost use Rattle.general.specs.Changed.{changed};
+ghost use Rattle.astar.specs.Inner.Bytes.{Sized, Writable, wayBack, lengthOf, laidIn, answerIn};
 use expansion::Plan;
 use expansion::Sizes;
 use refusal::Refusal;
@@ -31,7 +29,7 @@ fn cells_to(workspace: &[u8], plan: Plan, sizes: Sizes, i: usize) -> Length
         if cell::same(known::cell_at(workspace, plan.known, at), plan.start) {
             return Length::Cells(cells);
         }
-        let before = rows::before_at(workspace, plan.known, sizes.known, at);
+        let before = search_rows::before_at(workspace, plan.known, sizes.known, at);
         if before >= sizes.known {
             // No record has this number.
             return Length::NoWay;
@@ -45,20 +43,17 @@ fn cells_to(workspace: &[u8], plan: Plan, sizes: Sizes, i: usize) -> Length
 
 // The route to the cell of record i, so many cells, at the front of a buffer that holds it.
 fn write(workspace: &[u8], plan: Plan, sizes: Sizes, i: usize, cells: usize, output: &mut [u8])
-    requires { ⌜ Sized plan (now workspace) sizes ⌝ }
-    requires { ⌜ i < sizes .known ⌝ }
-    requires { ⌜ lengthOf (wayBack plan (now workspace) sizes i) ≡ Cells cells ⌝ }
-    requires { ⌜ cells ≤ roomIn (now output) ⌝ }
+    requires { ⌜ Writable plan (now workspace) sizes i cells (now output) ⌝ }
     ensures { λ _. ⌜ now (output .exit) ≡ laidIn (wayBack plan (now (workspace .entry)) sizes i) (now (output .entry)) ⌝ }
 {
     let mut at = i;
     let mut place = cells - 1;
     while 0 < place {
-        listing::put(output, place, known::cell_at(workspace, plan.known, at));
-        at = rows::before_at(workspace, plan.known, sizes.known, at);
+        cell_list::put(output, place, known::cell_at(workspace, plan.known, at));
+        at = search_rows::before_at(workspace, plan.known, sizes.known, at);
         place -= 1;
     }
-    listing::put(output, 0, known::cell_at(workspace, plan.known, at));
+    cell_list::put(output, 0, known::cell_at(workspace, plan.known, at));
 }
 
 // The answer of a search that has come to the cell of record i.
@@ -76,10 +71,10 @@ pub fn answer(
     match cells_to(workspace, plan, sizes, i) {
         Length::NoWay => SearchAnswer::Refused(Refusal::BadWorkspace),
         Length::Cells(cells) => {
-            if cells > listing::room(output) {
+            if cells > cell_list::room(output) {
                 return SearchAnswer::Refused(Refusal::NoRoom(Room::Output));
             }
-            let cost = rows::g_at(workspace, plan.known, i);
+            let cost = search_rows::g_at(workspace, plan.known, i);
             write(workspace, plan, sizes, i, cells, output);
             SearchAnswer::Found(Route {
                 cells,

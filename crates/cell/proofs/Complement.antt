@@ -1,4 +1,4 @@
--- Two's complement at 32 bits, as `twos` works it out. Assumes nothing.
+-- Two's complement at 32 bits, as `twos` works it out.
 use mathlib.Core.Path.{_≡_, refl, subst, ap, _∙_}
 use mathlib.Core.Bool.{true, false}
 use Prim.Native.Nat.{ℕ, suc, _+_, _-_, _≤_, _<_, _^_}

@@ -1,4 +1,4 @@
--- A loop that fills a list of n with a function's values at another list of n, one store a turn. Assumes nothing.
+-- A loop that fills a list of n with a function's values at another list of n, one store a turn.
 use mathlib.Core.Path.{_≡_, sym, ap, _∙_}
 use mathlib.Core.List.{List, [], _∷_, _++_, map, map-append}
 use Prim.Native.Nat.{ℕ, _+_, _≤_, _<_}

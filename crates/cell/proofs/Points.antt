@@ -1,12 +1,16 @@
--- Points of the packed cell, by computation. The known points of the scope document stand in one table, in the top crate. Assumes nothing.
+-- Points of the packed cell, by computation. The known points of the scope document stand in one table, in the top crate.
+use mathlib.Core.Bool.{false}
 use mathlib.Core.Path.{_≡_, refl}
-use lib.IntN.{pos, negsuc}
+use lib.IntN.{ℤ, pos, negsuc}
 use Rattle.refusal.specs.declared.Cell.{Cell}
-use Rattle.refusal.specs.declared.Refusal.the-variants.{NoParent}
+use Rattle.refusal.specs.declared.Refusal.the-variants.{CoordOverflow, NoParent}
+use Rattle.lattice.specs.Lattice.{at, isLatticePoint, parityOf, manhattan}
 use Rattle.lattice.specs.Lattice as lattice
-use Rattle.lattice.specs.Lattice.{at, isLatticePoint, parityOf}
+use Rattle.distance.specs.Distance.{differencesFit}
+use Rattle.cell.specs.declared.Between.the-variants as between
+use Rattle.cell.specs.Cell.{packed, plainAt, coordOf, betweenOf, exponentOf, newOf, parentOf, climbed, ancestorOf}
+use Rattle.cell.specs.Terms.{bothBetween}
 use Rattle.cell.specs.declared.CellAnswer.the-variants.{Is, Refused}
-use Rattle.cell.specs.Cell.{coordOf, exponentOf, packed, newOf, plainAt, parentOf, climbed, ancestorOf}
 
 -- the cell of the document's fields (0,3), (1,-1,1), exponent 28, flags 165, as words
 abbrev known : Cell
@@ -38,3 +42,13 @@ unchanged = refl
 pub too-fine : ancestorOf known 4 ≡ Refused NoParent
 unfolding ancestorOf climbed
 too-fine = refl
+
+abbrev along : ℤ → Cell
+along x = plainAt 0 0 (at x (pos 0) (pos 0))
+
+-- from (-2, 0, 0) to (2147483646, 0, 0) the difference of x leaves i32, and both refuse
+pub between-refused : (differencesFit (coordOf (along (pos 2147483646))) (coordOf (along (negsuc 1))) ≡ false)
+    × (bothBetween (along (negsuc 1)) (along (pos 2147483646)) ≡ between.Refused CoordOverflow)
+    × (betweenOf (along (negsuc 1)) (along (pos 2147483646)) ≡ between.Refused CoordOverflow)
+unfolding betweenOf packed isLatticePoint parityOf manhattan differencesFit
+between-refused = (refl, refl, refl)

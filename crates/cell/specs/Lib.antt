@@ -1,9 +1,5 @@
 pub mod Cell
-pub mod Laws
-pub mod Ancestors
-pub mod Bits
 pub mod Bytes
-pub mod Stored
-pub mod BytesLaws
 pub mod Lists
-pub mod ListLaws
+pub mod Terms
+pub mod Inner

@@ -4,8 +4,11 @@ ghost use mathlib.Core.List.{map};
 ghost use Prim.Native.Nat.{_+_, _≤_};
 ghost use lib.ListN.{length};
 ghost use Rattle.lattice.specs.Lattice.{at};
-ghost use Rattle.cell.specs.Bytes.{cellAt, cellBytes, cellStored, fromBytesOf};
-ghost use Rattle.cell.specs.Cell.{frameOf, resolutionOf, exponentOf, flagsOf, reservedOf, xOf, yOf, zOf, coordOf, packed, newOf, latticeCoordOf, isPlain, sameCell, lessCell, orderOf, plainAt, noNeighbors, neighborsOf, noChildren, childrenOf, parentOf, ancestorOf, alike, betweenOf, manhattanCells, distanceCells};
+ghost use Rattle.cell.specs.Bytes.{cellAt, cellBytes, fromBytesOf, cellWidth};
+ghost use Rattle.cell.specs.Inner.Bytes.{cellStored};
+ghost use Rattle.cell.specs.Cell.{frameOf, resolutionOf, exponentOf, flagsOf, reservedOf, xOf, yOf, zOf, coordOf, packed, newOf};
+ghost use Rattle.cell.specs.Cell.{latticeCoordOf, isPlain, sameCell, lessCell, orderOf, plainAt, noNeighbors, neighborsOf, noChildren};
+ghost use Rattle.cell.specs.Cell.{childrenOf, parentOf, ancestorOf, alike, betweenOf, manhattanCells, distanceCells};
 
 pub mod twos;
 
@@ -18,6 +21,9 @@ use refusal::Cell;
 use refusal::Coord;
 use refusal::Outcome;
 use refusal::Refusal;
+
+// The bytes of a cell.
+pub const CELL_WIDTH: usize = 16;
 
 // A cell, or why there is none.
 pub enum CellAnswer {
@@ -414,7 +420,7 @@ pub fn distance_to(a: Cell, b: Cell) -> DistanceAnswer
 
 // The cell that the 16 bytes at `at` make.
 pub fn read_at(s: &[u8], at: usize) -> Cell
-    requires { ⌜ at + 16 ≤ length (now s) ⌝ }
+    requires { ⌜ at + cellWidth ≤ length (now s) ⌝ }
     ensures { λ r. ⌜ r ≡ cellAt (now (s .entry)) at ⌝ }
 {
     Cell {
@@ -425,7 +431,7 @@ pub fn read_at(s: &[u8], at: usize) -> Cell
 
 // Stores a cell's 16 bytes at `at`.
 pub fn write_at(s: &mut [u8], at: usize, c: Cell)
-    requires { ⌜ at + 16 ≤ length (now s) ⌝ }
+    requires { ⌜ at + cellWidth ≤ length (now s) ⌝ }
     ensures { λ _. ⌜ now (s .exit) ≡ cellStored (now (s .entry)) at c ⌝ }
 {
     words::write64_big(s, at, c.high);
@@ -433,10 +439,10 @@ pub fn write_at(s: &mut [u8], at: usize, c: Cell)
 }
 
 // A cell's 16 bytes, the highest first.
-pub fn to_bytes(c: Cell) -> [u8; 16]
+pub fn to_bytes(c: Cell) -> [u8; CELL_WIDTH]
     ensures { λ r. ⌜ r ≡ cellBytes c ⌝ }
 {
-    let mut bytes = [0u8; 16];
+    let mut bytes = [0u8; CELL_WIDTH];
     write_at(&mut bytes, 0, c);
     bytes
 }
@@ -445,7 +451,7 @@ pub fn to_bytes(c: Cell) -> [u8; 16]
 pub fn from_bytes(s: &[u8]) -> CellAnswer
     ensures { λ r. ⌜ r ≡ fromBytesOf (now (s .entry)) ⌝ }
 {
-    if s.len() == 16 {
+    if s.len() == CELL_WIDTH {
         CellAnswer::Is(read_at(s, 0))
     } else {
         CellAnswer::Refused(Refusal::BadList)

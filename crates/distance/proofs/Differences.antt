@@ -1,8 +1,8 @@
 -- "CoordOverflow when a difference leaves i32. Manhattan: also when the sum passes 2147483647." `manhattanOf` leaves the first test out: a difference that leaves i32 makes the sum pass
--- 2147483647, so both tests together refuse where the second alone does. Assumes nothing.
+-- 2147483647, so both tests together refuse where the second alone does.
 use mathlib.Core.Path.{_≡_, refl, sym, _∙_}
 use mathlib.Core.Bool.{Bool, true, false, cond, false≢true}
-use Prim.Native.Nat.{ℕ, _<_, _≤_}
+use Prim.Native.Nat.{_<_, _≤_}
 use native.Mathlib.Omega.{arith}
 use lib.Dec.{leb}
 use lib.IntN.{ℤ, pos, negsuc, natAbs, _-ℤ_}
@@ -11,12 +11,11 @@ use Rattle.refusal.specs.declared.Coord.{Coord}
 use Rattle.refusal.specs.declared.Refusal.the-variants.{CoordOverflow}
 use Rattle.lattice.specs.declared.ParityAnswer.{ParityAnswer}
 use Rattle.lattice.specs.declared.ParityAnswer.the-variants as parity
-use Rattle.lattice.specs.declared.NumberAnswer.{NumberAnswer}
 use Rattle.lattice.specs.declared.NumberAnswer.the-variants as number
-use Rattle.lattice.specs.Lattice.{at, origin, isLatticePoint, parityOf, within, manhattan, manhattanBy, manhattanOf}
+use Rattle.lattice.specs.Lattice.{parityOf, within, manhattan, manhattanOf}
+use Rattle.lattice.proofs.Split.{manhattanBy}
 use Rattle.distance.specs.Distance.{differencesFit}
-
--- ---- what is left out
+use Rattle.distance.specs.Terms.{bothBy, bothTests}
 
 -- a number that is no further from zero than this is in i32
 near-within : (z : ℤ) → natAbs z ≤ 2147483647 → within (negsuc 2147483647) (pos 2147483647) z ≡ true
@@ -45,17 +44,6 @@ sum-decides a b x y = go (leb (manhattan a b) 2147483647) (differencesFit a b) r
     go false false f g = refl
     go true false f g = absurd (false≢true (sym g ∙ sum-fits a b (leb-true (manhattan a b) 2147483647 f)))
 
--- ---- Manhattan distance
-
--- as document 01 says it: the parities, then each difference, then the sum
-abbrev pub bothBy : ParityAnswer → ParityAnswer → Bool → ℕ → NumberAnswer
-bothBy (parity.Refused r) q fits n = number.Refused r
-bothBy (parity.Is p) (parity.Refused r) fits n = number.Refused r
-bothBy (parity.Is p) (parity.Is q) fits n = cond fits (cond (leb n 2147483647) (number.Is (pos n)) (number.Refused CoordOverflow)) (number.Refused CoordOverflow)
-
-abbrev pub bothTests : Coord → Coord → NumberAnswer
-bothTests a b = bothBy (parityOf a) (parityOf b) (differencesFit a b) (manhattan a b)
-
 -- the definition of the calls is that
 pub both-tests : (a b : Coord) → bothTests a b ≡ manhattanOf a b
 unfolding manhattanOf
@@ -65,11 +53,3 @@ both-tests a b = by-parity (parityOf a) (parityOf b)
     by-parity (parity.Refused r) q = refl
     by-parity (parity.Is p) (parity.Refused r) = refl
     by-parity (parity.Is p) (parity.Is q) = sum-decides a b (number.Is (pos (manhattan a b))) (number.Refused CoordOverflow)
-
--- a difference of 2147483648 leaves i32, one of -2147483648 does not; the sum refuses both
-pub ends-refused : (bothTests (at (pos 2147483646) (pos 0) (pos 0)) (at (negsuc 1) (pos 0) (pos 0)) ≡ number.Refused CoordOverflow)
-    × (differencesFit (at (pos 2147483646) (pos 0) (pos 0)) (at (negsuc 1) (pos 0) (pos 0)) ≡ false)
-    × (bothTests (at (negsuc 2147483647) (pos 0) (pos 0)) origin ≡ number.Refused CoordOverflow)
-    × (differencesFit (at (negsuc 2147483647) (pos 0) (pos 0)) origin ≡ true)
-unfolding manhattan parityOf isLatticePoint differencesFit
-ends-refused = (refl, refl, refl, refl)

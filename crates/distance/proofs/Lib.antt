@@ -1,4 +1,9 @@
+pub mod Theorems
+pub mod Whole
+pub mod Laws
+pub mod StepsLaws
 pub mod OneAnswer
 pub mod Points
 pub mod Differences
 pub mod Nearest
+pub mod Split

@@ -1,31 +1,30 @@
 -- Demand 2 of distances, in one sentence: `distance-nearest`. A distance that is answered is the f64 nearest to the true square root of `squaredDistance`, the sum of the squares rounded
--- in source order; where that is 0, it is +0. Assumes nothing.
+-- in source order; where that is 0, it is +0.
 use mathlib.Core.Path.{_≡_, refl, sym, _∙_, subst}
 use mathlib.Core.Bool.{Bool, true, false}
 use Prim.Native.Nat.{ℕ, zero, suc, _+_, _*_, _≤_, _<_}
 use native.Mathlib.Nat.{mul-pos}
 use native.Mathlib.Omega.{arith}
 use lib.IntN.{pos}
-use lib.Ieee.{Float, fin, binary64, ofBits, fits}
+use lib.Ieee.{Float, fin, fits}
 use lib.Ieee.Exact.{HasValue}
 use lib.Ieee.Positive.{num, den, own-value}
 use Rattle.refusal.specs.declared.Coord.{Coord}
 use Rattle.lattice.specs.declared.Parity.{Parity}
 use Rattle.lattice.specs.declared.ParityAnswer.{ParityAnswer}
 use Rattle.lattice.specs.declared.ParityAnswer.the-variants as parity
-use Rattle.lattice.specs.Lattice.{at, origin, parityOf}
+use Rattle.lattice.specs.Lattice.{parityOf}
 use Rattle.root.specs.declared.Root.the-variants.{Of}
 use Rattle.root.specs.Root.{rootWhole}
-use Rattle.root.specs.Answers.{answers}
-use Rattle.root.specs.Nearest.{Nearer, whole-nearest, root-zero}
-use Rattle.root.specs.Bounds.{root-bounds}
+use Rattle.root.proofs.Answers.{answers}
+use Rattle.root.specs.Terms.{Nearer}
+use Rattle.root.proofs.Nearest.{whole-nearest, root-zero}
+use Rattle.root.proofs.Bounds.{root-bounds}
 use Rattle.distance.specs.declared.DistanceAnswer.the-variants.{Is}
-use Rattle.distance.specs.Distance.{differencesFit, squaredDistance, distanceIn, distanceBy, distanceOf}
-use Rattle.distance.specs.Laws.{squared-whole, distance-root}
+use Rattle.distance.specs.Distance.{differencesFit, squaredDistance, distanceOf}
+use Rattle.distance.proofs.Split.{distanceIn, distanceBy}
+use Rattle.distance.proofs.Laws.{squared-whole, distance-root}
 use Rattle.distance.specs.Nearest.{NearestRoot}
-use Rattle.distance.proofs.Points.{to-a-corner}
-
--- ---- the root of a whole number
 
 -- the root of 0 is +0, and every other size is further from it
 zero-root : rootWhole 0 ≡ fin false 0 (pos 0)
@@ -49,8 +48,6 @@ whole-root x (suc n) v most =
     let b = root-bounds (suc n) first most in
     record { square = suc n; value = v; representable = b .holds; not-negative = own-value (rootWhole (suc n)) (b .above); nearest = whole-nearest (suc n) first most }
 
--- ---- the distance
-
 -- THE THEOREM: a distance that is answered is the f64 nearest to the square root of the rounded sum of the squares, which is a whole number
 pub distance-nearest : (a b : Coord) (d : Float) → distanceOf a b ≡ Is d → NearestRoot (squaredDistance a b) d
 unfolding distanceOf
@@ -67,8 +64,3 @@ distance-nearest a b d h = by (parityOf a) (parityOf b) refl refl h
     by (parity.Refused r) q first second g = absurd (let z : _≡_ {A = ℕ} 0 1 = cc in omega arith)
     by (parity.Is p) (parity.Refused r) first second g = absurd (let z : _≡_ {A = ℕ} 0 1 = cc in omega arith)
     by (parity.Is p) (parity.Is q) first second g = tested (differencesFit a b) first second refl g
-
--- and there are such: from (0,0,0) to (1,1,1) the sum is 3.0, and what is answered has the bits that document 01 names for its root
-pub corner-nearest : NearestRoot (fin false 3 (pos 0)) (ofBits binary64 0x3FFB_B67A_E858_4CAA)
-unfolding squaredDistance
-corner-nearest = distance-nearest origin (at (pos 1) (pos 1) (pos 1)) (ofBits binary64 0x3FFB_B67A_E858_4CAA) to-a-corner

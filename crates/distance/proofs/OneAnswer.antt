@@ -1,8 +1,7 @@
--- Two answers that meet the contract of `distance_to` agree. Assumes nothing.
+-- Two answers that meet the contract of `distance_to` agree.
 use mathlib.Core.Path.{sym, _∙_}
-use Rattle.refusal.specs.OneAnswer.{OneAnswer}
-use Rattle.distance.proofs.distance_to.Kinds as distance-to-kinds
-use Rattle.distance.proofs.distance_to.Reads as distance-to
+use Rattle.general.specs.OneAnswer.{OneAnswer}
+use Rattle.distance.proofs as here
 
-pub distance-one : OneAnswer 0 distance-to-kinds.ps distance-to-kinds.r distance-to.Post
+pub distance-one : OneAnswer 0 here.distance_to.Kinds.ps here.distance_to.Kinds.r here.distance_to.Reads.Post
 distance-one κs a z z′ e e′ p q = p ∙ sym q

@@ -1,5 +1,5 @@
 pub mod Distance
-pub mod Whole
-pub mod Laws
 pub mod Steps
 pub mod Nearest
+pub mod Inner
+pub mod Terms

@@ -16,13 +16,18 @@ pub enum DistanceAnswer {
     Refused(Refusal),
 }
 
+// The 32-bit numbers.
+const LEAST_NUMBER: i64 = -2147483648;
+
+const MOST_NUMBER: i64 = 2147483647;
+
 // Whether the first less the second, on one axis, is a 32-bit number.
 fn difference_fits(a: i32, b: i32) -> bool
     ensures { λ r. ⌜ r ≡ differenceFits a b ⌝ }
 {
     let d = (a as i64) - (b as i64);
-    if -2147483648 <= d {
-        return d <= 2147483647;
+    if LEAST_NUMBER <= d {
+        return d <= MOST_NUMBER;
     }
     false
 }

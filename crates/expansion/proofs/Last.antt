@@ -1,4 +1,4 @@
--- A step by its tag. Assumes nothing.
+-- Which steps do not go on, by their tag.
 use mathlib.Core.Path.{_≡_}
 use mathlib.Core.Logic.{⊎-elim}
 use mathlib.Core.List.{[], _∷_}

@@ -1,13 +1,13 @@
--- Two answers that meet a contract of the search between pops agree, and so do the bytes that they leave in both buffers, whatever the bytes were. Assumes nothing.
+-- Two answers that meet a contract of the search between pops agree, and so do the bytes that they leave in both buffers, whatever the bytes were.
 use mathlib.Core.Path.{_≡_, ap, sym, _∙_}
 use denote.Ref.{at-last}
-use Rattle.refusal.specs.OneAnswer.{OneAnswer, OneExit}
+use Rattle.general.specs.OneAnswer.{OneAnswer, OneExit}
 use Prim.Native.Nat.{ℕ}
 use native.Mathlib.Omega.{arith}
 use Rattle.expansion.specs.declared.Estimate.{Estimate}
 use Rattle.expansion.specs.declared.Estimate.the-variants as estimate
 use Rattle.expansion.specs.Estimate.{toldAhead}
-use Rattle.expansion.specs.Bytes.{After}
+use Rattle.expansion.specs.Inner.Bytes.{After}
 use Rattle.expansion.proofs as here
 
 pub plus-one : OneAnswer 0 here.plus.Kinds.ps here.plus.Kinds.r here.plus.Reads.Post
@@ -26,29 +26,29 @@ told-one (estimate.Refused r) (estimate.Refused s) e = let same : r ≡ s = cc i
 pub ahead-one : OneAnswer 0 here.ahead.Kinds.ps here.ahead.Kinds.r here.ahead.Reads.Post
 ahead-one κs a z z′ e e′ p q = told-one z z′ (p .0 ∙ sym (q .0))
 
-pub renew-one : OneAnswer 2 here.renew.Kinds.ps here.renew.Kinds.r here.renew.Reads.Post
-renew-one κs a z z′ e e′ p q = ap (λ (x : After). x .2) (p ∙ sym q)
+pub push-known-one : OneAnswer 2 here.push_known.Kinds.ps here.push_known.Kinds.r here.push_known.Reads.Post
+push-known-one κs a z z′ e e′ p q = ap (λ (x : After). x .2) (p ∙ sym q)
 
-pub renew-exit : OneExit 2 here.renew.Kinds.ps here.renew.Kinds.r here.renew.Reads.Post
-renew-exit κs a z z′ last last′ p q = let same = p ∙ sym q in λ i. (at-last (a .0) (same i .0), (at-last (a .1 .0) (same i .1), a .1 .1))
+pub push-known-exit : OneExit 2 here.push_known.Kinds.ps here.push_known.Kinds.r here.push_known.Reads.Post
+push-known-exit κs a z z′ last last′ p q = let same = p ∙ sym q in λ i. (at-last (a .0) (same i .0), (at-last (a .1 .0) (same i .1), a .1 .1))
 
-pub fresh-one : OneAnswer 2 here.fresh.Kinds.ps here.fresh.Kinds.r here.fresh.Reads.Post
-fresh-one κs a z z′ e e′ p q = ap (λ (x : After). x .2) (p ∙ sym q)
+pub push-new-one : OneAnswer 2 here.push_new.Kinds.ps here.push_new.Kinds.r here.push_new.Reads.Post
+push-new-one κs a z z′ e e′ p q = ap (λ (x : After). x .2) (p ∙ sym q)
 
-pub fresh-exit : OneExit 2 here.fresh.Kinds.ps here.fresh.Kinds.r here.fresh.Reads.Post
-fresh-exit κs a z z′ last last′ p q = let same = p ∙ sym q in λ i. (at-last (a .0) (same i .0), (at-last (a .1 .0) (same i .1), a .1 .1))
+pub push-new-exit : OneExit 2 here.push_new.Kinds.ps here.push_new.Kinds.r here.push_new.Reads.Post
+push-new-exit κs a z z′ last last′ p q = let same = p ∙ sym q in λ i. (at-last (a .0) (same i .0), (at-last (a .1 .0) (same i .1), a .1 .1))
 
-pub reach-known-one : OneAnswer 3 here.reach_known.Kinds.ps here.reach_known.Kinds.r here.reach_known.Reads.Post
-reach-known-one κs a z z′ e e′ p q = ap (λ (x : After). x .2) (p ∙ sym q)
+pub try-known-one : OneAnswer 3 here.try_known.Kinds.ps here.try_known.Kinds.r here.try_known.Reads.Post
+try-known-one κs a z z′ e e′ p q = ap (λ (x : After). x .2) (p ∙ sym q)
 
-pub reach-known-exit : OneExit 3 here.reach_known.Kinds.ps here.reach_known.Kinds.r here.reach_known.Reads.Post
-reach-known-exit κs a z z′ last last′ p q = let same = p ∙ sym q in λ i. (at-last (a .0) (same i .0), (at-last (a .1 .0) (same i .1), a .1 .1))
+pub try-known-exit : OneExit 3 here.try_known.Kinds.ps here.try_known.Kinds.r here.try_known.Reads.Post
+try-known-exit κs a z z′ last last′ p q = let same = p ∙ sym q in λ i. (at-last (a .0) (same i .0), (at-last (a .1 .0) (same i .1), a .1 .1))
 
-pub reach-new-one : OneAnswer 3 here.reach_new.Kinds.ps here.reach_new.Kinds.r here.reach_new.Reads.Post
-reach-new-one κs a z z′ e e′ p q = ap (λ (x : After). x .2) (p ∙ sym q)
+pub try-new-one : OneAnswer 3 here.try_new.Kinds.ps here.try_new.Kinds.r here.try_new.Reads.Post
+try-new-one κs a z z′ e e′ p q = ap (λ (x : After). x .2) (p ∙ sym q)
 
-pub reach-new-exit : OneExit 3 here.reach_new.Kinds.ps here.reach_new.Kinds.r here.reach_new.Reads.Post
-reach-new-exit κs a z z′ last last′ p q = let same = p ∙ sym q in λ i. (at-last (a .0) (same i .0), (at-last (a .1 .0) (same i .1), a .1 .1))
+pub try-new-exit : OneExit 3 here.try_new.Kinds.ps here.try_new.Kinds.r here.try_new.Reads.Post
+try-new-exit κs a z z′ last last′ p q = let same = p ∙ sym q in λ i. (at-last (a .0) (same i .0), (at-last (a .1 .0) (same i .1), a .1 .1))
 
 pub relax-one : OneAnswer 3 here.relax.Kinds.ps here.relax.Kinds.r here.relax.Reads.Post
 relax-one κs a z z′ e e′ p q = ap (λ (x : After). x .2) (p ∙ sym q)

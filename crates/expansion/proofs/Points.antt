@@ -1,4 +1,4 @@
--- Bytes that no search left, computed: rooms of one known cell and one waiting entry, the cell 0 and its entry. What cannot be searched on is BadWorkspace, and what can is searched on. Assumes nothing.
+-- Bytes that no search left, computed: rooms of one known cell and one waiting entry, the cell 0 and its entry. What cannot be searched on is BadWorkspace, and what can is searched on.
 use mathlib.Core.Path.{_≡_, refl}
 use mathlib.Core.List.{List, [], _∷_, _++_}
 use Prim.Native.Nat.{ℕ}
@@ -6,13 +6,13 @@ use lib.ListN.{replicate}
 use Rattle.refusal.specs.declared.Cell.{Cell}
 use Rattle.refusal.specs.declared.Refusal.the-variants.{NoPathFound, BadWorkspace}
 use Rattle.words.specs.Word.{word, number, ordered}
-use Rattle.waiting.specs.Sift.{popIn}
-use Rattle.known.specs.Known.{mixedOf, bucketOf, cellIn}
-use Rattle.known.specs.Seek.{seekIn, findIn}
-use Rattle.rows.specs.Rows.{rowIn}
+use Rattle.waiting.specs.Inner.Sift.{popIn}
+use Rattle.known.specs.Inner.Known.{mixedOf, bucketOf, cellIn}
+use Rattle.known.specs.Inner.Seek.{seekIn, findIn}
+use Rattle.search_rows.specs.Inner.Rows.{rowIn}
 use Rattle.expansion.specs.declared.Plan.{Plan}
 use Rattle.expansion.specs.declared.Step.the-variants as step
-use Rattle.expansion.specs.Bytes.{After, sizesOf, dueIn, advanceIn, popsIn, runIn, resumeIn}
+use Rattle.expansion.specs.Inner.Bytes.{After, sizesOf, dueIn, advanceIn, popsIn, runIn, resumeIn}
 
 abbrev nought : Cell
 nought = record { high = 0; low = 0 }

@@ -1,17 +1,19 @@
-// The search from pop to pop, over lent bytes: the known cells in one buffer, a heap of waiting entries in another. A cell is closed and counted, and its neighbours are reached. What each function
-// answers and leaves is a function of the bytes, whether they hold a search or not; what cannot be searched on is BadWorkspace.
+// The search from pop to pop, over lent bytes: the known cells in one buffer, a heap of waiting entries in another. A cell is closed and counted, and
+// its neighbours are reached. What each function answers and leaves is a function of the bytes, whether they hold a search or not; what cannot be
+// searched on is BadWorkspace.
 ghost use mathlib.Core.Path.{_≡_};
-ghost use mathlib.Core.Bool.{true, false};
-ghost use Prim.Native.Nat.{_<_};
+ghost use mathlib.Core.Bool.{true};
 ghost use lib.Ieee.{binary64, toBits};
 ghost use Rattle.cell.specs.Cell.{distanceCells};
-ghost use Rattle.layer.specs.Layer.{isSound, rowsOf};
+ghost use Rattle.table.specs.Records.{isSound, rowsOf, flagWidth};
 ghost use Rattle.route.specs.Route.{costBetween};
 ghost use Rattle.search.specs.Search.{plus};
 ghost use Rattle.search.specs.Plan.{distanceBits};
 ghost use Rattle.search.specs.Costs.{Cost};
 ghost use Rattle.expansion.specs.Estimate.{toldAhead, SoundAhead};
-ghost use Rattle.expansion.specs.Bytes.{Rooms, Fits, renewIn, freshIn, knownIn, newIn, relaxIn, relaxAllIn, enteredIn, advanceIn, isSized, enough, dueIn, pausedIn, popsIn, runIn, resumeIn};
+ghost use Rattle.expansion.specs.Inner.Bytes.{Rooms, Fits, pushKnownIn, pushNewIn, tryKnownIn, tryNewIn, relaxIn, relaxAllIn, enteredIn};
+ghost use Rattle.expansion.specs.Inner.Bytes.{advanceIn, isSized, enough, dueIn, pausedIn, popsIn, runIn, resumeIn};
+ghost use Rattle.expansion.specs.Inner.Ready.{Entered, EnteredTo, ToKnown, ToNew, Unpaused};
 use distance::DistanceAnswer;
 use known::Found;
 use refusal::Cell;
@@ -86,7 +88,7 @@ pub fn ahead(c: Cell, goal: Cell) -> Estimate
 const INFINITY: u64 = 0x7FF0_0000_0000_0000;
 
 // A shorter way to a known cell, that of record i, from the cell of record `at`.
-fn renew(
+fn push_known(
     workspace: &mut [u8],
     heap: &mut [u8],
     plan: Plan,
@@ -95,11 +97,8 @@ fn renew(
     i: usize,
     g: u64,
 ) -> Step
-    requires { ⌜ Fits plan (now workspace) (now heap) sizes ⌝ }
-    requires { ⌜ Cost g ⌝ }
-    requires { ⌜ at < sizes .known ⌝ }
-    requires { ⌜ i < sizes .known ⌝ }
-    ensures { λ r. ⌜ (now (workspace .exit), now (heap .exit), r) ≡ renewIn plan (now (workspace .entry)) (now (heap .entry)) sizes at i g ⌝ }
+    requires { ⌜ ToKnown plan (now workspace) (now heap) sizes at i g ⌝ }
+    ensures { λ r. ⌜ (now (workspace .exit), now (heap .exit), r) ≡ pushKnownIn plan (now (workspace .entry)) (now (heap .entry)) sizes at i g ⌝ }
 {
     let n = known::cell_at(workspace, plan.known, i);
     match ahead(n, plan.goal) {
@@ -108,7 +107,7 @@ fn renew(
             if sizes.waiting >= plan.waiting {
                 return Step::Stopped(Refusal::NoRoom(Room::Waiting));
             }
-            rows::lower(workspace, plan.known, i, g, at);
+            search_rows::lower(workspace, plan.known, i, g, at);
             let f = plus(g, h);
             waiting::push(heap, sizes.waiting, Entry { f, cell: n, g });
             Step::Going(Sizes {
@@ -121,7 +120,7 @@ fn renew(
 }
 
 // A first way to a cell that is not known, from the cell of record `at`.
-fn fresh(
+fn push_new(
     workspace: &mut [u8],
     heap: &mut [u8],
     plan: Plan,
@@ -130,11 +129,8 @@ fn fresh(
     n: Cell,
     g: u64,
 ) -> Step
-    requires { ⌜ Fits plan (now workspace) (now heap) sizes ⌝ }
-    requires { ⌜ Cost g ⌝ }
-    requires { ⌜ at < sizes .known ⌝ }
-    requires { ⌜ sizes .known < plan .known ⌝ }
-    ensures { λ r. ⌜ (now (workspace .exit), now (heap .exit), r) ≡ freshIn plan (now (workspace .entry)) (now (heap .entry)) sizes at n g ⌝ }
+    requires { ⌜ ToNew plan (now workspace) (now heap) sizes at g ⌝ }
+    ensures { λ r. ⌜ (now (workspace .exit), now (heap .exit), r) ≡ pushNewIn plan (now (workspace .entry)) (now (heap .entry)) sizes at n g ⌝ }
 {
     match ahead(n, plan.goal) {
         Estimate::Refused(r) => Step::Stopped(r),
@@ -142,7 +138,7 @@ fn fresh(
             if sizes.waiting >= plan.waiting {
                 return Step::Stopped(Refusal::NoRoom(Room::Waiting));
             }
-            rows::append(workspace, plan.known, sizes.known, n, g, at);
+            search_rows::append(workspace, plan.known, sizes.known, n, g, at);
             let f = plus(g, h);
             waiting::push(heap, sizes.waiting, Entry { f, cell: n, g });
             Step::Going(Sizes {
@@ -155,7 +151,7 @@ fn fresh(
 }
 
 // A way of cost t from the cell of record `at` to the cell n, which is known, in record i.
-fn reach_known(
+fn try_known(
     workspace: &mut [u8],
     heap: &mut [u8],
     flags: &[u8],
@@ -167,28 +163,26 @@ fn reach_known(
     n: Cell,
     t: u64,
 ) -> Step
-    requires { ⌜ Fits plan (now workspace) (now heap) sizes ⌝ }
-    requires { ⌜ isSound 20 (now flags) count ≡ true ⌝ }
-    requires { ⌜ Cost t ⌝ }
-    requires { ⌜ at < sizes .known ⌝ }
-    requires { ⌜ i < sizes .known ⌝ }
-    ensures { λ r. ⌜ (now (workspace .exit), now (heap .exit), r) ≡ knownIn plan (rowsOf 20 (now (flags .entry)) count) (now (workspace .entry)) (now (heap .entry)) sizes at i n t ⌝ }
+    requires { ⌜ EnteredTo plan (now workspace) (now heap) sizes (now flags) count at i t ⌝ }
+    ensures { λ r.
+        let rows = rowsOf flagWidth (now (flags .entry)) count in
+        ⌜ (now (workspace .exit), now (heap .exit), r) ≡ tryKnownIn plan rows (now (workspace .entry)) (now (heap .entry)) sizes at i n t ⌝ }
 {
-    if rows::is_closed(workspace, plan.known, i) {
+    if search_rows::is_closed(workspace, plan.known, i) {
         return Step::Going(sizes);
     }
-    if t < rows::g_at(workspace, plan.known, i) {
+    if t < search_rows::g_at(workspace, plan.known, i) {
         // Asked last: it costs most, and few ways are shorter.
         if route::is_shut(flags, count, plan.rule, n) {
             return Step::Going(sizes);
         }
-        return renew(workspace, heap, plan, sizes, at, i, t);
+        return push_known(workspace, heap, plan, sizes, at, i, t);
     }
     Step::Going(sizes)
 }
 
 // The same to a cell that is not known.
-fn reach_new(
+fn try_new(
     workspace: &mut [u8],
     heap: &mut [u8],
     flags: &[u8],
@@ -199,11 +193,10 @@ fn reach_new(
     n: Cell,
     t: u64,
 ) -> Step
-    requires { ⌜ Fits plan (now workspace) (now heap) sizes ⌝ }
-    requires { ⌜ isSound 20 (now flags) count ≡ true ⌝ }
-    requires { ⌜ Cost t ⌝ }
-    requires { ⌜ at < sizes .known ⌝ }
-    ensures { λ r. ⌜ (now (workspace .exit), now (heap .exit), r) ≡ newIn plan (rowsOf 20 (now (flags .entry)) count) (now (workspace .entry)) (now (heap .entry)) sizes at n t ⌝ }
+    requires { ⌜ Entered plan (now workspace) (now heap) sizes (now flags) count at t ⌝ }
+    ensures { λ r.
+        let rows = rowsOf flagWidth (now (flags .entry)) count in
+        ⌜ (now (workspace .exit), now (heap .exit), r) ≡ tryNewIn plan rows (now (workspace .entry)) (now (heap .entry)) sizes at n t ⌝ }
 {
     if route::is_shut(flags, count, plan.rule, n) {
         return Step::Going(sizes);
@@ -212,7 +205,7 @@ fn reach_new(
         if sizes.known >= plan.known {
             return Step::Stopped(Refusal::NoRoom(Room::Known));
         }
-        return fresh(workspace, heap, plan, sizes, at, n, t);
+        return push_new(workspace, heap, plan, sizes, at, n, t);
     }
     Step::Going(sizes)
 }
@@ -230,16 +223,15 @@ fn relax(
     g: u64,
     n: Cell,
 ) -> Step
-    requires { ⌜ Fits plan (now workspace) (now heap) sizes ⌝ }
-    requires { ⌜ isSound 20 (now flags) count ≡ true ⌝ }
-    requires { ⌜ Cost g ⌝ }
-    requires { ⌜ at < sizes .known ⌝ }
-    ensures { λ r. ⌜ (now (workspace .exit), now (heap .exit), r) ≡ relaxIn plan (rowsOf 20 (now (flags .entry)) count) at c g n (now (workspace .entry)) (now (heap .entry)) sizes ⌝ }
+    requires { ⌜ Entered plan (now workspace) (now heap) sizes (now flags) count at g ⌝ }
+    ensures { λ r.
+        let rows = rowsOf flagWidth (now (flags .entry)) count in
+        ⌜ (now (workspace .exit), now (heap .exit), r) ≡ relaxIn plan rows at c g n (now (workspace .entry)) (now (heap .entry)) sizes ⌝ }
 {
     let t = plus(g, cost(c, n));
-    match rows::look(workspace, plan.known, sizes.known, n) {
-        Found::At(i) => reach_known(workspace, heap, flags, count, plan, sizes, at, i, n, t),
-        Found::Nowhere => reach_new(workspace, heap, flags, count, plan, sizes, at, n, t),
+    match search_rows::look(workspace, plan.known, sizes.known, n) {
+        Found::At(i) => try_known(workspace, heap, flags, count, plan, sizes, at, i, n, t),
+        Found::Nowhere => try_new(workspace, heap, flags, count, plan, sizes, at, n, t),
     }
 }
 
@@ -256,11 +248,10 @@ fn relax_all(
     g: u64,
     cells: [Cell; 14],
 ) -> Step
-    requires { ⌜ Fits plan (now workspace) (now heap) sizes ⌝ }
-    requires { ⌜ isSound 20 (now flags) count ≡ true ⌝ }
-    requires { ⌜ Cost g ⌝ }
-    requires { ⌜ at < sizes .known ⌝ }
-    ensures { λ r. ⌜ (now (workspace .exit), now (heap .exit), r) ≡ relaxAllIn plan (rowsOf 20 (now (flags .entry)) count) at c g cells (now (workspace .entry)) (now (heap .entry)) sizes ⌝ }
+    requires { ⌜ Entered plan (now workspace) (now heap) sizes (now flags) count at g ⌝ }
+    ensures { λ r.
+        let rows = rowsOf flagWidth (now (flags .entry)) count in
+        ⌜ (now (workspace .exit), now (heap .exit), r) ≡ relaxAllIn plan rows at c g cells (now (workspace .entry)) (now (heap .entry)) sizes ⌝ }
 {
     let mut size = sizes;
     let mut i = 0;
@@ -301,11 +292,10 @@ fn enter(
     at: usize,
     g: u64,
 ) -> Step
-    requires { ⌜ Fits plan (now workspace) (now heap) sizes ⌝ }
-    requires { ⌜ isSound 20 (now flags) count ≡ true ⌝ }
-    requires { ⌜ Cost g ⌝ }
-    requires { ⌜ at < sizes .known ⌝ }
-    ensures { λ r. ⌜ (now (workspace .exit), now (heap .exit), r) ≡ enteredIn plan (rowsOf 20 (now (flags .entry)) count) (now (workspace .entry)) (now (heap .entry)) sizes at g ⌝ }
+    requires { ⌜ Entered plan (now workspace) (now heap) sizes (now flags) count at g ⌝ }
+    ensures { λ r.
+        let rows = rowsOf flagWidth (now (flags .entry)) count in
+        ⌜ (now (workspace .exit), now (heap .exit), r) ≡ enteredIn plan rows (now (workspace .entry)) (now (heap .entry)) sizes at g ⌝ }
 {
     if plan.limit < sizes.count {
         return Step::Stopped(Refusal::SearchLimitExceeded(Spent {
@@ -338,8 +328,10 @@ fn advance(
     sizes: Sizes,
 ) -> Step
     requires { ⌜ Fits plan (now workspace) (now heap) sizes ⌝ }
-    requires { ⌜ isSound 20 (now flags) count ≡ true ⌝ }
-    ensures { λ r. ⌜ (now (workspace .exit), now (heap .exit), r) ≡ advanceIn plan (rowsOf 20 (now (flags .entry)) count) (now (workspace .entry)) (now (heap .entry)) sizes ⌝ }
+    requires { ⌜ isSound flagWidth (now flags) count ≡ true ⌝ }
+    ensures { λ r.
+        let rows = rowsOf flagWidth (now (flags .entry)) count in
+        ⌜ (now (workspace .exit), now (heap .exit), r) ≡ advanceIn plan rows (now (workspace .entry)) (now (heap .entry)) sizes ⌝ }
 {
     if sizes.waiting == 0 {
         let start = plan.start;
@@ -349,9 +341,9 @@ fn advance(
     let first = waiting::pop(heap, sizes.waiting);
     let left = sizes.waiting - 1;
     let c = first.cell;
-    match rows::look(workspace, plan.known, sizes.known, c) {
+    match search_rows::look(workspace, plan.known, sizes.known, c) {
         Found::At(row) => {
-            if rows::is_closed(workspace, plan.known, row) {
+            if search_rows::is_closed(workspace, plan.known, row) {
                 return Step::Going(Sizes {
                     known: sizes.known,
                     waiting: left,
@@ -362,11 +354,11 @@ fn advance(
                 // More would be closed than are known.
                 return Step::Stopped(Refusal::BadWorkspace);
             }
-            let g = rows::g_at(workspace, plan.known, row);
+            let g = search_rows::g_at(workspace, plan.known, row);
             if g > INFINITY {
                 return Step::Stopped(Refusal::BadWorkspace);
             }
-            rows::close_at(workspace, plan.known, row);
+            search_rows::close_at(workspace, plan.known, row);
             let counted = sizes.count + 1;
             let closed = Sizes {
                 known: sizes.known,
@@ -390,8 +382,8 @@ fn is_due(workspace: &[u8], heap: &[u8], plan: Plan, sizes: Sizes) -> bool
     }
     let first = waiting::first(heap, sizes.waiting);
     let c = first.cell;
-    match rows::look(workspace, plan.known, sizes.known, c) {
-        Found::At(row) => !rows::is_closed(workspace, plan.known, row),
+    match search_rows::look(workspace, plan.known, sizes.known, c) {
+        Found::At(row) => !search_rows::is_closed(workspace, plan.known, row),
         Found::Nowhere => true,
     }
 }
@@ -417,10 +409,10 @@ fn pops(
     sizes: Sizes,
     until: u64,
 ) -> Step
-    requires { ⌜ Fits plan (now workspace) (now heap) sizes ⌝ }
-    requires { ⌜ isSound 20 (now flags) count ≡ true ⌝ }
-    requires { ⌜ pausedIn plan until (now workspace) (now heap) sizes ≡ false ⌝ }
-    ensures { λ r. ⌜ (now (workspace .exit), now (heap .exit), r) ≡ popsIn plan (rowsOf 20 (now (flags .entry)) count) (enough plan) until (now (workspace .entry)) (now (heap .entry)) sizes ⌝ }
+    requires { ⌜ Unpaused plan (now workspace) (now heap) sizes (now flags) count until ⌝ }
+    ensures { λ r.
+        let rows = rowsOf flagWidth (now (flags .entry)) count in
+        ⌜ (now (workspace .exit), now (heap .exit), r) ≡ popsIn plan rows (enough plan) until (now (workspace .entry)) (now (heap .entry)) sizes ⌝ }
 {
     let mut size = sizes;
     loop {
@@ -435,7 +427,8 @@ fn pops(
     }
 }
 
-// A search until so many cells are closed and the next pop would close one more, or to the end. No more than 65,536 cells are ever closed: a larger number is no bound.
+// A search until so many cells are closed and the next pop would close one more, or to the end. No more than 65,536 cells are ever closed: a larger
+// number is no bound.
 pub fn run(
     workspace: &mut [u8],
     heap: &mut [u8],
@@ -446,8 +439,10 @@ pub fn run(
     until: u64,
 ) -> Step
     requires { ⌜ Fits plan (now workspace) (now heap) sizes ⌝ }
-    requires { ⌜ isSound 20 (now flags) count ≡ true ⌝ }
-    ensures { λ r. ⌜ (now (workspace .exit), now (heap .exit), r) ≡ runIn plan (rowsOf 20 (now (flags .entry)) count) until (now (workspace .entry)) (now (heap .entry)) sizes ⌝ }
+    requires { ⌜ isSound flagWidth (now flags) count ≡ true ⌝ }
+    ensures { λ r.
+        let rows = rowsOf flagWidth (now (flags .entry)) count in
+        ⌜ (now (workspace .exit), now (heap .exit), r) ≡ runIn plan rows until (now (workspace .entry)) (now (heap .entry)) sizes ⌝ }
 {
     if is_paused(workspace, heap, plan, sizes, until) {
         return Step::Going(sizes);
@@ -478,8 +473,10 @@ pub fn resume(
     until: u64,
 ) -> Step
     requires { ⌜ Rooms (plan .known) (plan .waiting) (now workspace) (now heap) ⌝ }
-    requires { ⌜ isSound 20 (now flags) count ≡ true ⌝ }
-    ensures { λ r. ⌜ (now (workspace .exit), now (heap .exit), r) ≡ resumeIn plan (rowsOf 20 (now (flags .entry)) count) until (now (workspace .entry)) (now (heap .entry)) sizes ⌝ }
+    requires { ⌜ isSound flagWidth (now flags) count ≡ true ⌝ }
+    ensures { λ r.
+        let rows = rowsOf flagWidth (now (flags .entry)) count in
+        ⌜ (now (workspace .exit), now (heap .exit), r) ≡ resumeIn plan rows until (now (workspace .entry)) (now (heap .entry)) sizes ⌝ }
 {
     if !is_sized(plan, sizes) {
         return Step::Stopped(Refusal::BadWorkspace);

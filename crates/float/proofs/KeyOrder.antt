@@ -1,4 +1,4 @@
--- The key's order is IEEE 754's totalOrder: both are the order of the patterns without their signs, turned around where both signs are negative. Assumes nothing.
+-- The key's order is IEEE 754's totalOrder: both are the order of the patterns without their signs, turned around where both signs are negative.
 use mathlib.Core.Path.{_≡_, refl, sym, ap, _∙_}
 use Prim.Native.Nat.{ℕ, _+_, _-_, _*_, _/_, _%_, _^_, _≤_, _<_}
 use native.Mathlib.Nat.{le-of-lt}
@@ -8,8 +8,7 @@ use lib.Dec.{leb, ltb, eqb}
 use borrow.Author.Tests.{lt-ltb, le-ltb, le-leb, lt-leb, ltb-true, ltb-false, leb-true, leb-false, eq-eqb, eqb-true, eqb-false}
 use lib.Ieee.{binary64, below, nanBits}
 use lib.Ieee.Bits.{nanBits-above}
-use Rattle.float.specs.TotalOrder.{negative, quiet, payload, equals, numbers, classes, nans, totalOrder, keyOf, bitsOfKey}
-use Rattle.float.specs.Laws.{key-bits}
+use Rattle.float.specs.TotalOrder.{negative, quiet, payload, equals, numbers, classes, nans, totalOrder, totalKey}
 use Rattle.float.proofs.Sizes.{unsigned, numbers-order}
 
 -- ---- both orders, on a sign and the rest of the pattern
@@ -23,8 +22,8 @@ atOrBelow false p true q = false
 atOrBelow true p false q = true
 atOrBelow true p true q = leb q p
 
-key-is : (a : ℕ) → a < 2 ^ 64 → keyOf a ≡ keyAt (negative a) (unsigned a)
-unfolding keyOf
+key-is : (a : ℕ) → a < 2 ^ 64 → totalKey a ≡ keyAt (negative a) (unsigned a)
+unfolding totalKey
 key-is a h = go (negative a) refl
   where
     low : a < 9223372036854775808 → a ≡ a % 9223372036854775808
@@ -208,13 +207,9 @@ module _ (a b : ℕ) (A : a < 2 ^ 64) (B : b < 2 ^ 64) where
       go false true e f = nan-second (negative a) (negative b) (unsigned a) (unsigned b) (apart (unsigned a) (unsigned b) (number-within a e) (nan-above b f))
       go false false e f = two-numbers a b A B e f
 
-  keys-are : leb (keyOf a) (keyOf b) ≡ atOrBelow (negative a) (unsigned a) (negative b) (unsigned b)
+  keys-are : leb (totalKey a) (totalKey b) ≡ atOrBelow (negative a) (unsigned a) (negative b) (unsigned b)
   keys-are = rw (key-is a A, key-is b B) (keys-order (negative a) (negative b) (unsigned a) (unsigned b) (omega arith) (omega arith))
 
 -- Keys compare as numbers the way `totalOrder` compares the patterns.
-pub key-is-total-order : (a b : ℕ) → a < 2 ^ 64 → b < 2 ^ 64 → totalOrder a b ≡ leb (keyOf a) (keyOf b)
+pub key-is-total-order : (a b : ℕ) → a < 2 ^ 64 → b < 2 ^ 64 → totalOrder a b ≡ leb (totalKey a) (totalKey b)
 key-is-total-order a b A B = total-order-is a b A B ∙ sym (keys-are a b A B)
-
--- No two patterns share a key.
-pub key-injective : (a b : ℕ) → a < 2 ^ 64 → b < 2 ^ 64 → keyOf a ≡ keyOf b → a ≡ b
-key-injective a b A B e = sym (key-bits a A) ∙ ap bitsOfKey e ∙ key-bits b B

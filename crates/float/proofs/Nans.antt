@@ -1,11 +1,11 @@
--- What operations do with a NaN: an operation that takes `nan` to `nan` on either side answers with the one pattern that is written for it. Assumes nothing.
+-- What operations do with a NaN: an operation that takes `nan` to `nan` on either side answers with the one pattern that is written for it.
 use mathlib.Core.Path.{_≡_, refl, sym, _∙_, subst}
 use mathlib.Core.Bool.{Bool, true, false, not}
 use Prim.Native.Nat.{ℕ}
 use lib.Dec.{T}
 use lib.Ieee.{Float, nan, inf, fin, binary64, ofBits, toBits, nanBits, isNan, lt, add, mul, ne}
 use lib.Ieee.Compare.{differs-from-itself, nan-differs}
-use Rattle.float.specs.Laws.{nan-value}
+use Rattle.float.proofs.Laws.{nan-value}
 
 pub fails : {b : Bool} → b ≡ false → T (not b)
 fails e = subst (λ (t : Bool). T (not t)) (sym e) tt

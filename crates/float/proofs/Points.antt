@@ -1,4 +1,4 @@
--- Known points, by computation. Assumes nothing.
+-- Known points, by computation.
 use mathlib.Core.Path.{_≡_, refl}
 use mathlib.Core.Bool.{true, false}
 use Prim.Native.Nat.{ℕ}
@@ -6,7 +6,7 @@ use lib.Dec.{ltb}
 use lib.IntN.{negsuc}
 use lib.Ieee.{binary64, ofBits, toBits, round, lt, nanBits}
 use Rattle.float.specs.Round.{roundAway, wholeAway}
-use Rattle.float.specs.TotalOrder.{equals, numbers, classes, nans, totalOrder, keyOf}
+use Rattle.float.specs.TotalOrder.{equals, numbers, classes, nans, totalOrder, totalKey}
 
 -- ---- rounding, on patterns
 unfoldable pub rounded : ℕ → ℕ
@@ -43,8 +43,8 @@ unfolding wholeAway ofBits
 minus-two-and-a-half = refl
 
 -- ---- the order of all patterns
-pub zeros-in-order : ltb (keyOf 0x8000_0000_0000_0000) (keyOf 0) ≡ true
-unfolding keyOf
+pub zeros-in-order : ltb (totalKey 0x8000_0000_0000_0000) (totalKey 0) ≡ true
+unfolding totalKey
 zeros-in-order = refl
 
 -- a pattern that is at or below another, and not the other way round

@@ -1,4 +1,4 @@
--- The pattern of a power of two is its exponent's field alone, which is 1023 for 1. Assumes nothing.
+-- The pattern of a power of two is its exponent's field alone, which is 1023 for 1.
 use mathlib.Core.Path.{_≡_, ap, _∙_}
 use mathlib.Core.Bool.{false}
 use Prim.Native.Nat.{ℕ, suc, _+_, _*_, _/_, _%_, _<_}

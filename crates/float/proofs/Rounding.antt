@@ -1,7 +1,7 @@
--- Rounding of a number above zero, N / D as a fraction: its double is exact, and half of one more than the double's whole part is the nearest whole number. Assumes nothing.
+-- Rounding of a number above zero, N / D as a fraction: its double is exact, and half of one more than the double's whole part is the nearest whole number.
 use mathlib.Core.Path.{_≡_, refl, sym, ap, _∙_, subst}
 use Prim.Native.Nat.{ℕ, zero, suc, _+_, _-_, _*_, _/_, _%_, _^_, _≤_, _<_}
-use native.Mathlib.Nat.{le-trans, le-of-eq, mul-one, mul-assoc, mul-comm, mul-pos, zero-mul, div-div-eq-div-mul, add-div-right, div-lt-iff-lt-mul, lt-of-lt-of-le, le-of-lt, lt-of-not-le, not-le-of-lt, sub-add-cancel, zero-lt-suc}
+use native.Mathlib.Nat.{mul-one, mul-assoc, mul-comm, mul-pos, div-div-eq-div-mul, add-div-right, div-lt-iff-lt-mul, lt-of-lt-of-le, le-of-lt, lt-of-not-le, not-le-of-lt, sub-add-cancel, zero-lt-suc}
 use native.Mathlib.Omega.{arith}
 use mathlib.Core.Bool.{Bool, true, false, _&&_, true≢false, false≢true}
 use lib.IntN.{ℤ, pos, negsuc}
@@ -12,9 +12,10 @@ use lib.Ieee.{Float, nan, inf, fin, binary64, up, down, round, mul, lt, fits, to
 use lib.Ieee.Fits.{down-pos, and-l, and-r, round-fits}
 use lib.Ieee.Exact.{HasValue, round-exact}
 use lib.Ieee.Nearest.{div-same}
-use lib.Ieee.Back.{round-whole, whole-unique}
-use Rattle.float.specs.Round.{wholeOf, wholeSize, roundAway}
-use Rattle.float.specs.Laws.{so, digits-of, size-within, above-minus-one, cut-is}
+use lib.Ieee.Back.{whole-unique}
+use Rattle.float.specs.Round.{wholeOf, roundAway}
+use Rattle.float.specs.Inner.Round.{wholeSize}
+use Rattle.float.proofs.Laws.{so, digits-of, size-within, above-minus-one, cut-is}
 
 abbrev pub nought : Float
 nought = fin false 0 (pos 0)
@@ -202,13 +203,3 @@ large-stays (fin false (suc m) (negsuc k)) t a b =
     few P a b c = omega arith
 
 -- ---- the rounding of a number is exact: it has the nearest whole number for its value
-pub away-value : (s : Bool) (m : ℕ) (e : ℤ) → T (fits binary64 (fin s m e)) → HasValue (roundAway (fin s m e)) s (wholeOf m e) 1
-unfolding roundAway
-away-value s zero e t = round-whole binary64 s (wholeOf 0 e) (le-trans (size-within 0 e 0 (le-of-eq (zero-mul (up e) ∙ sym (zero-mul (down e))))) (lit≤ tt))
-away-value s (suc m) (pos k) t = subst (λ (n : ℕ). HasValue (round binary64 s n 1) s n 1) (sym (itself s m k t)) (rounded-value s m k t)
-away-value s (suc m) (negsuc k) t =
-    round-whole binary64 s (wholeOf (suc m) (negsuc k))
-    (size-within (suc m) (negsuc k) 9007199254740992 (less (2 ^ suc k) (digits-of s (suc m) (negsuc k) t) (pow-pos (suc k))))
-  where
-    less : (P : ℕ) → suc m < 9007199254740992 → 0 < P → suc m * 1 ≤ 9007199254740992 * P
-    less P a b = omega arith

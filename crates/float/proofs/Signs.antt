@@ -1,4 +1,4 @@
--- Rounding and the sign: a number above zero, one below and a zero. The negative of a rounded number is the negative rounded, and a zero stays. Assumes nothing.
+-- Rounding and the sign: a number above zero, one below and a zero. The negative of a rounded number is the negative rounded, and a zero stays.
 use mathlib.Core.Path.{_≡_, refl, sym, ap, _∙_, subst}
 use Prim.Native.Nat.{ℕ, zero, suc, _+_, _*_, _^_, _≤_, _<_, zero-le}
 use native.Mathlib.Nat.{mul-one, zero-mul, mul-pos, zero-lt-suc, le-of-eq}
@@ -10,8 +10,9 @@ use borrow.Author.Tests.{ltb-true, ltb-false, eqb-true, lt-ltb}
 use lib.Ieee.{Float, nan, inf, fin, Format, binary64, prec, emax, low, up, down, odd, units, round, neg, lt, le, fits}
 use lib.Ieee.Fits.{round-is, round-fits, up-pos, down-pos}
 use lib.Ieee.Back.{round-whole, whole-unique}
-use Rattle.float.specs.Round.{wholeOf, wholeSize, roundAway, wholeAway}
-use Rattle.float.specs.Laws.{at-most, size-within}
+use Rattle.float.specs.Round.{wholeOf, roundAway, wholeAway}
+use Rattle.float.specs.Inner.Round.{wholeSize}
+use Rattle.float.proofs.Laws.{at-most, size-within}
 use Rattle.float.proofs.Rounding.{nought, coarse}
 
 odd-neg : (d : ℕ) (s : Bool) (q k l : ℕ) → neg (odd d s q k l) ≡ odd d (not s) q k l

@@ -1,4 +1,4 @@
--- Numbers compare as their patterns do: with the sign taken off, a larger pattern is a larger size, an infinity's included. Assumes nothing.
+-- Numbers compare as their patterns do: with the sign taken off, a larger pattern is a larger size, an infinity's included.
 use mathlib.Core.Path.{_≡_, refl, sym, ap, _∙_, subst}
 use mathlib.Core.Logic.{_⊎_, inl, inr}
 use Prim.Native.Nat.{ℕ, zero, suc, _+_, _*_, _/_, _%_, _^_, _≤_, _<_}

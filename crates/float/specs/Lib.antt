@@ -1,3 +1,3 @@
 pub mod Round
-pub mod Laws
 pub mod TotalOrder
+pub mod Inner

@@ -1,4 +1,4 @@
--- Rounding to a whole number with halves away from zero, which is IEEE 754-2019's roundToIntegralTiesToAway (5.9) and Rust's `f64::round`. Definitions only. Assumes nothing.
+-- Rounding to a whole number with halves away from zero, which is IEEE 754-2019's roundToIntegralTiesToAway (5.9) and Rust's `f64::round`. Definitions only.
 use Prim.Native.Nat.{ℕ, _+_, _*_, _/_}
 use mathlib.Core.Bool.{cond}
 use lib.IntN.{ℤ, pos, negℤ}
@@ -7,12 +7,6 @@ use lib.Ieee.{Float, nan, inf, fin, binary64, up, down, round}
 -- The whole number nearest to m * 2 ^ e, the larger of two as near: the whole part of m * 2 ^ e + 1 / 2.
 abbrev pub wholeOf : ℕ → ℤ → ℕ
 wholeOf m e = (2 * m * up e + down e) / (2 * down e)
-
--- The whole number nearest to a number's size, and 0 for what is no number or infinite.
-unfoldable pub wholeSize : Float → ℕ
-wholeSize nan = 0
-wholeSize (inf s) = 0
-wholeSize (fin s m e) = wholeOf m e
 
 -- A float rounded: what is no number or infinite stays, and a number keeps its sign, a zero too. `round` changes nothing here.
 unfoldable pub roundAway : Float → Float

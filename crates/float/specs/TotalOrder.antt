@@ -1,4 +1,4 @@
--- The order of all bit patterns that IEEE 754-2019 defines in 5.10, `totalOrder`, clause by clause, and a key whose order as a number is that order. Definitions only. Assumes nothing.
+-- The order of all bit patterns that IEEE 754-2019 defines in 5.10, `totalOrder`, clause by clause, and a key whose order as a number is that order. Definitions only.
 use Prim.Native.Nat.{ℕ, _+_, _-_, _/_, _%_, _^_}
 use mathlib.Core.Bool.{Bool, true, false, not, _&&_, Bool·beq, cond}
 use lib.Dec.{leb, ltb, eqb}
@@ -8,10 +8,11 @@ use lib.Ieee.{binary64, ofBits, nanBits, lt}
 abbrev pub negative : ℕ → Bool
 negative b = leb (2 ^ 63) b
 
--- A NaN is quiet where bit 51 is set, and signalling where it is clear. Its payload is in the bits below.
+-- A NaN is quiet where bit 51 is set, and signalling where it is clear.
 abbrev pub quiet : ℕ → Bool
 quiet b = eqb (b / 2 ^ 51 % 2) 1
 
+-- A NaN's payload: its bits below bit 51.
 abbrev pub payload : ℕ → ℕ
 payload b = b % 2 ^ 51
 
@@ -41,9 +42,9 @@ totalOrder a b =
     (cond (nanBits binary64 b) (nans a b) (negative a))
     (cond (nanBits binary64 b) (not (negative b)) (numbers a b))
 
--- A positive pattern goes to the upper half, and a negative one, turned around, to the lower.
-unfoldable pub keyOf : ℕ → ℕ
-keyOf b = cond (ltb b (2 ^ 63)) (b + 2 ^ 63) (2 ^ 64 - 1 - b)
+-- A pattern's key: a positive pattern goes to the upper half of the numbers, and a negative one, turned around, to the lower.
+unfoldable pub totalKey : ℕ → ℕ
+totalKey b = cond (ltb b (2 ^ 63)) (b + 2 ^ 63) (2 ^ 64 - 1 - b)
 
 -- The pattern that has a key.
 unfoldable pub bitsOfKey : ℕ → ℕ

@@ -1,10 +1,12 @@
-// Numbers of 64 bits by their bit patterns, after IEEE 754-2019. Each function takes every pattern, the NaNs among them, unless its contract says which it takes.
+// Numbers of 64 bits by their bit patterns, after IEEE 754-2019. Each function takes every pattern, the NaNs among them, unless its contract says
+// which it takes.
 ghost use mathlib.Core.Path.{_≡_};
 ghost use mathlib.Core.Bool.{true, false};
 ghost use lib.IntN.{pos};
 ghost use lib.Ieee.{binary64, fin, nanBits, ofBits, toBits, add, mul, lt, le};
-ghost use Rattle.float.specs.Round.{wholeSize, roundAway, wholeAway};
-ghost use Rattle.float.specs.TotalOrder.{keyOf, bitsOfKey};
+ghost use Rattle.float.specs.Inner.Round.{wholeSize};
+ghost use Rattle.float.specs.Round.{roundAway, wholeAway};
+ghost use Rattle.float.specs.TotalOrder.{totalKey, bitsOfKey};
 
 // The one pattern that is written for a NaN.
 const NAN: u64 = 0x7FF8_0000_0000_0000;
@@ -139,7 +141,7 @@ pub fn nearest_whole(x: f64) -> i32
 
 // A key of a pattern. Keys compare as numbers the way IEEE 754's totalOrder compares the patterns, and no two patterns share one.
 pub fn total_order_key(bits: u64) -> u64
-    ensures { λ r. ⌜ r ≡ keyOf bits ⌝ }
+    ensures { λ r. ⌜ r ≡ totalKey bits ⌝ }
 {
     if bits < 0x8000_0000_0000_0000 {
         bits + 0x8000_0000_0000_0000

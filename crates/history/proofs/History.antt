@@ -1,15 +1,15 @@
 -- After any history get answers what the last step that touched the cell left of it: "after any sequence of sets, removes, clears, loads and rollups into it, refused ones among them, from a sound
--- layer, get answers what the last unrefused set or remove of that cell, clear, load or rollup left." The one induction over the steps is `history-keeps`. Assumes nothing.
+-- layer, get answers what the last unrefused set or remove of that cell, clear, load or rollup left." The one induction over the steps is `history-keeps`.
 use mathlib.Core.Path.{_≡_, refl, ap, _∙_}
 use mathlib.Core.List.{List, [], _∷_}
 use Prim.Native.Nat.{ℕ}
 use Rattle.refusal.specs.declared.Cell.{Cell}
 use Rattle.cell.specs.declared.CellAnswer.the-variants as cell
 use Rattle.cell.specs.Bytes.{fromBytesOf}
-use Rattle.layer.specs.Layer.{Held, rowsOf, heldOf}
+use Rattle.table.specs.Records.{Held, rowsOf, heldOf, Layer}
 use Rattle.layer.specs.Calls.{ofHeld, heldIn}
 use Rattle.layer.proofs.Holding.{get-of-rows}
-use Rattle.history.specs.History.{Kind, widthOf, Layer, Step, OfBytes, AllOfBytes, no-steps, one-step, IsLayer, after, afterAll, left, leftThen, along, lastLeft}
+use Rattle.history.specs.History.{Kind, widthOf, Step, OfBytes, AllOfBytes, no-steps, one-step, IsLayer, after, afterAll, left, leftThen, along, lastLeft}
 use Rattle.history.proofs.Steps.{Shows, step-shows}
 
 -- what each step keeps of a layer and of what is told along the steps holds after all of them

@@ -1,3 +1,4 @@
+pub mod Theorems
 pub mod RollupRows
 pub mod Steps
 pub mod History

@@ -1,25 +1,25 @@
 -- A history, computed: a flag table with room for one record is set, refused another cell, set again, emptied, set with the other cell, refused a cell of 15 bytes, and loaded. A value table is
--- set and rolled up into. Assumes nothing.
+-- set and rolled up into.
 use mathlib.Core.Path.{_≡_, refl}
 use mathlib.Core.List.{List, [], _∷_, _++_, flatMap, map}
 use Prim.Native.Nat.{ℕ}
 use lib.Ieee.{ofInt, toBits}
 use lib.ListN.{replicate}
-use Rattle.refusal.specs.Table.{rawOf}
+use Rattle.refusal.specs.Refusals.{rawOf}
 use Rattle.refusal.specs.declared.Cell.{Cell}
 use Rattle.words.specs.Word.{number, ordered, word, lowDigits, bytesOf}
 use Rattle.lattice.specs.Lattice as lattice
 use Rattle.lattice.specs.Lattice.{isLatticePoint, parityOf}
 use Rattle.cell.specs.Cell.{coordOf, packed, parentOf}
 use Rattle.cell.specs.Bytes.{cellAt, cellBytes, fromBytesOf}
-use Rattle.layer.specs.Layer.{nothing, held, rowAt, rowsFrom, rowsOf, rowBytes, ascending, isSound, heldOf, withRow, withoutCell, laid}
-use Rattle.layer.specs.Changes.{refilled, setIn, removeIn, clearIn}
-use Rattle.order.specs.Groups.{setAll, withFirst, groupsOf}
+use Rattle.table.specs.Records.{nothing, held, rowAt, rowsFrom, rowsOf, rowBytes, ascending, isSound, heldOf, withRow, withoutCell, laid, refilled, Layer, layer}
+use Rattle.layer.specs.Changes.{setIn, removeIn, clearIn}
+use Rattle.sorting.specs.Groups.{setAll, withFirst, groupsOf}
 use Rattle.aggregate.specs.declared.Aggregation.the-variants.{Count}
 use Rattle.aggregate.specs.Aggregate.{anyNan, countOf, aggregateOf}
 use Rattle.rollup.specs.Rollup.{parentRows, rolledOf, rollupIn}
 use Rattle.survey.specs.Survey.{headerOf, recordsAt, flagRows, valueRows, loadOf}
-use Rattle.history.specs.History.{flagLayer, Layer, layer, Step, set, remove, clear, load, rollup, after, afterAll, left, along, lastLeft}
+use Rattle.history.specs.History.{flagLayer, Step, set, remove, clear, load, rollup, after, afterAll, left, along, lastLeft}
 
 -- the cell whose 16 bytes are all b, these bytes, and a flag record of it
 abbrev id : ℕ → List ℕ

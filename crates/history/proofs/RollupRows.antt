@@ -1,4 +1,4 @@
--- The rows that a rollup makes of any bytes are rows of a layer: they ascend as the groups do, and a record of 24 bytes can hold each. Assumes nothing.
+-- The rows that a rollup makes of any bytes are rows of a layer: they ascend as the groups do, and a record of 24 bytes can hold each.
 use mathlib.Core.Path.{_≡_, refl, sym, ap₂, subst, _∙_}
 use mathlib.Core.Bool.{Bool, true, false, cond, _&&_, and-eq-true-iff}
 use mathlib.Core.List.{List, [], _∷_, map}
@@ -13,13 +13,12 @@ use lib.Ieee.Fits.{add-fits, div-fits, ofInt-fits, cond-fits}
 use Rattle.cell.specs.declared.CellAnswer.{CellAnswer}
 use Rattle.cell.specs.declared.CellAnswer.the-variants as cell
 use Rattle.cell.specs.Cell.{lessCell, parentOf}
-use Rattle.cell.specs.Laws.{Words}
-use Rattle.cell.specs.Ancestors.{parent-words}
-use Rattle.layer.specs.Layer.{Row, ascending}
-use Rattle.layer.specs.Bytes.{AllStorable, no-rows, one-more}
-use Rattle.layer.specs.Changes.{given}
-use Rattle.order.specs.Groups.{Group, numbersOf, lastRow, groupsOf}
-use Rattle.order.specs.GroupLaws.{GroupsStorable, no-groups, one-group, groups-ascending, groups-storable}
+use Rattle.cell.specs.Terms.{Words}
+use Rattle.cell.proofs.Ancestors.{parent-words}
+use Rattle.table.specs.Records.{Row, ascending, keeping}
+use Rattle.table.specs.Terms.{AllStorable, no-rows, one-more}
+use Rattle.sorting.specs.Groups.{Group, numbersOf, lastRow, groupsOf}
+use Rattle.sorting.proofs.GroupLaws.{GroupsStorable, no-groups, one-group, groups-ascending, groups-storable}
 use Rattle.aggregate.specs.declared.Aggregation.{Aggregation}
 use Rattle.aggregate.specs.declared.Aggregation.the-variants.{Count, Sum, Mean, Min, Max, Median}
 use Rattle.aggregate.specs.declared.Aggregated.the-variants.{Number, HasNan}
@@ -66,7 +65,7 @@ rolled-made how (g ∷ gs) rs e = by-nan (minds how (anyNan (numbersOf g))) (rol
     by-nan true more f q = absurd (let z : _≡_ {A = ℕ} 0 1 = cc in omega arith)
     by-nan false nanFound f q = absurd (let z : _≡_ {A = ℕ} 0 1 = cc in omega arith)
     by-nan false (rolled ss) f q =
-        let r = given (g .cell) (toBits binary64 (numberBy how (g .first) (g .later))) in
+        let r = keeping (g .cell) (toBits binary64 (numberBy how (g .first) (g .later))) in
         let same : r ∷ ss ≡ rs = cc in
         subst (Made (g ∷ gs)) same (one-made refl (number-small how (g .first) (g .later)) (f ss refl))
 

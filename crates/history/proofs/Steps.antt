@@ -1,9 +1,8 @@
--- One step of a history: a layer is a layer after it, and holds of each cell what the step left of it, or what it held before. Assumes nothing.
+-- One step of a history: a layer is a layer after it, and holds of each cell what the step left of it, or what it held before.
 use mathlib.Core.Path.{_≡_, refl, sym, ap, subst, subst⁻¹, _∙_}
 use mathlib.Core.Bool.{Bool, true, false, cond, _&&_, and-eq-true-iff}
 use mathlib.Core.List.{List, []}
-use Prim.Native.Nat.{ℕ, _-_, _/_, _^_, _≤_, _<_}
-use native.Mathlib.Nat.{min-le-left}
+use Prim.Native.Nat.{ℕ, _-_, _^_, _≤_, _<_}
 use native.Mathlib.Omega.{arith}
 use borrow.Author.Tests.{leb-true}
 use lib.Dec.{leb}
@@ -17,17 +16,22 @@ use Rattle.cell.specs.declared.CellAnswer.{CellAnswer}
 use Rattle.cell.specs.declared.CellAnswer.the-variants as cell
 use Rattle.cell.specs.Cell.{sameCell}
 use Rattle.cell.specs.Bytes.{fromBytesOf}
-use Rattle.layer.specs.Layer.{Row, Held, nothing, held, mostCells, roomFor, rowsOf, ascending, isSound, heldOf, withoutCell}
-use Rattle.layer.specs.Laws.{sound-ascending}
-use Rattle.layer.specs.Map.{held-with, held-without}
-use Rattle.layer.specs.Bytes.{no-rows, rows-storable}
+use Rattle.table.specs.Records.{Row, Held, nothing, held, roomFor, rowsOf, ascending, isSound, heldOf, withoutCell, keeping, refilled, Layer, layer}
+use Rattle.table.proofs.Laws.{sound-ascending}
+use Rattle.table.proofs.Map.{held-with, held-without}
+use Rattle.table.specs.Terms.{no-rows, Holds}
+use Rattle.table.proofs.Bytes.{rows-storable}
 use Rattle.layer.specs.Calls.{ofHeld}
-use Rattle.layer.specs.Changes.{Changed, changed, given, refilled, setBy, setIn, removeBy, removeIn, clearIn}
-use Rattle.layer.proofs.Holding.{Holds, read-words, refilled-holds, set-either, remove-is, remove-holds}
+use Rattle.general.specs.Changed.{Changed, changed}
+use Rattle.layer.proofs.Split.{setBy, removeBy}
+use Rattle.layer.specs.Changes.{setIn, removeIn, clearIn}
+use Rattle.cell.proofs.BytesLaws.{read-words}
+use Rattle.table.proofs.Holding.{refilled-holds}
+use Rattle.layer.proofs.Holding.{set-either, remove-is, remove-holds}
 use Rattle.layer.specs.declared.HeldAnswer.{HeldAnswer}
-use Rattle.layer.specs.declared.CountAnswer.{CountAnswer}
-use Rattle.layer.specs.declared.CountAnswer.the-variants as count
-use Rattle.order.specs.Groups.{groupsOf}
+use Rattle.refusal.specs.declared.CountAnswer.{CountAnswer}
+use Rattle.refusal.specs.declared.CountAnswer.the-variants as count
+use Rattle.sorting.specs.Groups.{groupsOf}
 use Rattle.aggregate.specs.declared.Aggregation.{Aggregation}
 use Rattle.rollup.specs.Rollup.{Rolled, nanFound, rolled, parentRows, rolledOf, rolledInto, rollupIn}
 use Rattle.survey.specs.declared.Counts.{Counts}
@@ -35,10 +39,12 @@ use Rattle.survey.specs.declared.HeaderAnswer.{HeaderAnswer}
 use Rattle.survey.specs.declared.HeaderAnswer.the-variants as header
 use Rattle.survey.specs.declared.LoadAnswer.{LoadAnswer}
 use Rattle.survey.specs.declared.LoadAnswer.the-variants as load-answer
-use Rattle.survey.specs.Survey.{mostRecords, valuePlace, counting, headerOf, flagRows, valueRows, loading, replacedBoth, loadBy, loadOf}
-use Rattle.survey.specs.RoundTrips.{LayerRows, file-rows}
-use Rattle.history.specs.History.{Kind, flagLayer, valueLayer, widthOf, Layer, layer, Step, set, remove, clear, load, rollup, OfBytes, loadInto, tableFor, countFor, loadedBy, afterCount, afterRemove, afterLoad, after, Left, untouched, leaves, ofCell, ifCounted, ifHeld, ifLoaded, rowsFor, rowsOfRollup, left, leftThen}
+use Rattle.survey.specs.Survey.{mostRecords, valuePlace, counting, headerOf, flagRows, valueRows, loading, replacedBoth, loadOf}
+use Rattle.survey.proofs.Split.{loadBy}
+use Rattle.survey.proofs.RoundTrips.{LayerRows, file-rows}
+use Rattle.history.specs.History.{Kind, flagLayer, valueLayer, widthOf, Step, set, remove, clear, load, rollup, OfBytes, loadInto, tableFor, countFor, loadedBy, afterCount, afterRemove, afterLoad, after, Left, untouched, leaves, ofCell, ifCounted, ifHeld, ifLoaded, rowsFor, rowsOfRollup, left, leftThen}
 use Rattle.history.proofs.RollupRows.{rolled-ascending, rolled-storable}
+use Rattle.survey.proofs.Limits.{room-in-records}
 
 -- a table of bytes that is a sound layer, and holds this of a cell
 pub record Shows (kind : Kind) (c : Cell) (l : Layer) (h : Held) : Type 0 where
@@ -123,7 +129,7 @@ module _ (kind : Kind) (c : Cell) (t : List ℕ) (n : ℕ) (h : Held) (was : Sho
           set-either w t n id d read (was .sound) (wide kind) (was .bytes) (λ (z : Changed CountAnswer). Shows kind c (afterCount n z) (leftThen (ifCounted (z .said) (ofCell c (cell.Is d) (held k))) h)) k (read-words id d b read) small
           (λ m i has.
           shown kind c m i _ _ has
-          (held-with c (given d k) (rowsOf w t n) ∙ ap (cond (sameCell d c) (held k)) (was .holds) ∙ left-of-cell (sameCell d c) (held k) h))
+          (held-with c (keeping d k) (rowsOf w t n) ∙ ap (cond (sameCell d c) (held k)) (was .holds) ∙ left-of-cell (sameCell d c) (held k) h))
           was
 
   remove-shows : (id : List ℕ) → Shows kind c (afterRemove n (removeIn w t n id)) (leftThen (ifHeld (removeIn w t n id .said) (ofCell c (fromBytesOf id) nothing)) h)
@@ -152,7 +158,7 @@ module _ (kind : Kind) (c : Cell) (t : List ℕ) (n : ℕ) (h : Held) (was : Sho
       load-either kind file t other (λ (a : LoadAnswer) (m : List ℕ). Shows kind c (layer m (loadedBy kind a n)) (leftThen (ifLoaded a (leaves (heldOf c rs))) h))
       (λ why. was)
       (λ counts size fits.
-      let rows = rows-of-file kind file (headerOf file) b (omega (arith, min-le-left mostCells (length t / w))) in
+      let rows = rows-of-file kind file (headerOf file) b (omega (arith, room-in-records w t)) in
       subst⁻¹ (λ (i : ℕ). Shows kind c (layer (refilled w (roomFor w t) rs t) i) (heldOf c rs)) size
       (shown kind c (refilled w (roomFor w t) rs t) (length rs) rs (heldOf c rs) (refilled-holds w t (wide kind) (was .bytes) rs (roomFor w t) (rows .storable) (rows .rises) fits (omega arith)) refl))
 

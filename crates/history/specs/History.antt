@@ -1,5 +1,5 @@
--- The history of a layer: any sequence of sets, removes, clears, loads and rollups into it, refused ones among them; what each leaves in the table and the count, by the calls' own definitions, and
--- what each leaves of one cell. A refused call leaves all as it was. Over flag and value layers. Definitions only. Assumes nothing.
+-- The history of a layer: any sequence of sets, removes, clears, loads and rollups into it, refused ones among them; what each leaves in the table and the count, by the calls' own
+-- definitions, and what each leaves of one cell. A refused call leaves all as it was. Over flag and value layers. Definitions only.
 use mathlib.Core.Path.{_≡_}
 use mathlib.Core.Bool.{true, cond}
 use mathlib.Core.List.{List, [], _∷_}
@@ -9,14 +9,15 @@ use Rattle.words.specs.Word.{Bytes}
 use Rattle.cell.specs.declared.CellAnswer.{CellAnswer}
 use Rattle.cell.specs.declared.CellAnswer.the-variants as cell
 use Rattle.cell.specs.Cell.{sameCell}
-use Rattle.cell.specs.Bytes.{fromBytesOf}
-use Rattle.layer.specs.Layer.{Row, Held, nothing, held, rowsOf, heldOf, isSound}
-use Rattle.layer.specs.Changes.{Changed, setIn, removeIn, clearIn, countBy, leftBy}
+use Rattle.cell.specs.Bytes.{fromBytesOf, cellWidth}
+use Rattle.table.specs.Records.{Row, Held, nothing, held, rowsOf, heldOf, isSound, flagWidth, valueWidth, Layer, layer}
+use Rattle.general.specs.Changed.{Changed}
+use Rattle.layer.specs.Changes.{setIn, removeIn, clearIn, countBy, leftBy}
 use Rattle.layer.specs.declared.HeldAnswer.{HeldAnswer}
 use Rattle.layer.specs.declared.HeldAnswer.the-variants as kept
-use Rattle.layer.specs.declared.CountAnswer.{CountAnswer}
-use Rattle.layer.specs.declared.CountAnswer.the-variants as count
-use Rattle.order.specs.Groups.{groupsOf}
+use Rattle.refusal.specs.declared.CountAnswer.{CountAnswer}
+use Rattle.refusal.specs.declared.CountAnswer.the-variants as count
+use Rattle.sorting.specs.Groups.{groupsOf}
 use Rattle.aggregate.specs.declared.Aggregation.{Aggregation}
 use Rattle.rollup.specs.Rollup.{Rolled, nanFound, rolled, parentRows, rolledOf, rollupIn}
 use Rattle.survey.specs.declared.HeaderAnswer.{HeaderAnswer}
@@ -28,22 +29,15 @@ use Rattle.survey.specs.Survey.{Loading, headerOf, flagRows, valueRows, loadOf}
 
 -- ---- layers and the calls that change them
 
--- flag records have 20 bytes, value records 24
+-- a flag layer or a value layer
 pub data Kind : Type 0 where
   flagLayer : Kind
   valueLayer : Kind
 
+-- flag records have 20 bytes, value records 24
 abbrev pub widthOf : Kind → ℕ
-widthOf flagLayer = 20
-widthOf valueLayer = 24
-
--- a table, and the count of its records in use
-pub record Layer : Type 0 where
-  pub table : List ℕ
-  pub count : ℕ
-
-abbrev pub layer : List ℕ → ℕ → Layer
-layer l n = record { table = l; count = n }
+widthOf flagLayer = flagWidth
+widthOf valueLayer = valueWidth
 
 -- a call on a layer, with all that it is given beside it: a load is given its file and the table of the other layer, a rollup the fine layer
 pub data Step : Kind → Type 0 where
@@ -55,12 +49,13 @@ pub data Step : Kind → Type 0 where
 
 -- what a step is given are bytes, and what is to be kept fits its record
 abbrev pub OfBytes : {kind : Kind} → Step kind → Type 0
-OfBytes {kind} (set id k) = Bytes id × (k < 256 ^ (widthOf kind - 16))
+OfBytes {kind} (set id k) = Bytes id × (k < 256 ^ (widthOf kind - cellWidth))
 OfBytes (remove id) = Unit {0}
 OfBytes clear = Unit {0}
 OfBytes (load file other) = Bytes file
 OfBytes (rollup how fine n) = Bytes fine
 
+-- what each step is given are bytes
 pub data AllOfBytes {kind : Kind} : List (Step kind) → Type 0 where
   no-steps : AllOfBytes []
   one-step : {s : Step kind} {steps : List (Step kind)} → OfBytes s → AllOfBytes steps → AllOfBytes (s ∷ steps)
@@ -77,25 +72,30 @@ abbrev pub loadInto : Kind → List ℕ → List ℕ → List ℕ → Loading
 loadInto flagLayer file mine other = loadOf file mine other
 loadInto valueLayer file mine other = loadOf file other mine
 
--- this layer's part of it
+-- this layer's table after a load
 abbrev pub tableFor : Kind → Loading → List ℕ
 tableFor flagLayer g = g .flags
 tableFor valueLayer g = g .values
 
+-- this layer's count among the two that a load tells
 abbrev pub countFor : Kind → Counts → ℕ
 countFor flagLayer c = c .flags
 countFor valueLayer c = c .values
 
+-- the count after a load: where it refuses, the one that was given
 abbrev pub loadedBy : Kind → LoadAnswer → ℕ → ℕ
 loadedBy kind (load-answer.Loaded c) n = countFor kind c
 loadedBy kind (load-answer.Refused r) n = n
 
+-- the layer after a set or a rollup
 abbrev pub afterCount : ℕ → Changed CountAnswer → Layer
 afterCount n z = layer (z .bytes) (countBy (z .said) n)
 
+-- the layer after a remove
 abbrev pub afterRemove : ℕ → Changed HeldAnswer → Layer
 afterRemove n z = layer (z .bytes) (leftBy (z .said) n)
 
+-- the layer after a load
 abbrev pub afterLoad : Kind → ℕ → Loading → Layer
 afterLoad kind n g = layer (tableFor kind g) (loadedBy kind (g .said) n)
 
@@ -108,7 +108,7 @@ after {kind} clear l = layer (clearIn (widthOf kind) (l .table)) 0
 after {kind} (load file other) l = afterLoad kind (l .count) (loadInto kind file (l .table) other)
 after (rollup how fine n) l = afterCount (l .count) (rollupIn how fine n (l .table))
 
--- and after several, the first one first
+-- the layer after several, the first one first
 unfoldable pub afterAll : {kind : Kind} → List (Step kind) → Layer → Layer
 unfolding after
 afterAll [] l = l
@@ -126,16 +126,18 @@ abbrev pub ofCell : Cell → CellAnswer → Held → Left
 ofCell c (cell.Is d) h = cond (sameCell d c) (leaves h) untouched
 ofCell c (cell.Refused r) h = untouched
 
--- a call that was refused touches none
+-- a set or a rollup that was refused touches no cell
 abbrev pub ifCounted : CountAnswer → Left → Left
 ifCounted (count.Cells n) x = x
 ifCounted (count.Refused r) x = untouched
 
+-- nor does a remove that was refused
 abbrev pub ifHeld : HeldAnswer → Left → Left
 ifHeld (kept.Kept k) x = x
 ifHeld kept.Nothing x = x
 ifHeld (kept.Refused r) x = untouched
 
+-- nor does a load that was refused
 abbrev pub ifLoaded : LoadAnswer → Left → Left
 ifLoaded (load-answer.Loaded c) x = x
 ifLoaded (load-answer.Refused r) x = untouched
@@ -146,7 +148,7 @@ rowsFor flagLayer file (header.Sections c) = flagRows file c
 rowsFor valueLayer file (header.Sections c) = valueRows file c
 rowsFor kind file (header.Refused r) = []
 
--- those that a rollup makes
+-- the rows that a rollup makes
 abbrev pub rowsOfRollup : Rolled → List Row
 rowsOfRollup nanFound = []
 rowsOfRollup (rolled rs) = rs
@@ -158,7 +160,7 @@ left {kind} c (set id k) l = ifCounted (setIn (widthOf kind) (l .table) (l .coun
 left {kind} c (remove id) l = ifHeld (removeIn (widthOf kind) (l .table) (l .count) id .said) (ofCell c (fromBytesOf id) nothing)
 left c clear l = leaves nothing
 left {kind} c (load file other) l = ifLoaded (loadInto kind file (l .table) other .said) (leaves (heldOf c (rowsFor kind file (headerOf file))))
-left c (rollup how fine n) l = ifCounted (rollupIn how fine n (l .table) .said) (leaves (heldOf c (rowsOfRollup (rolledOf how (groupsOf (parentRows (rowsOf 24 fine n)))))))
+left c (rollup how fine n) l = ifCounted (rollupIn how fine n (l .table) .said) (leaves (heldOf c (rowsOfRollup (rolledOf how (groupsOf (parentRows (rowsOf valueWidth fine n)))))))
 
 -- ---- along a history
 

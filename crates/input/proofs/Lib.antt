@@ -1,2 +1,3 @@
+pub mod Theorems
 pub mod Points
 pub mod Room

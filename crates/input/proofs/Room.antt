@@ -1,4 +1,4 @@
--- The text that a report on an input leaves: it stands at the front, and a text of 84 bytes is always room enough. Assumes nothing.
+-- The text that a report on an input leaves: it stands at the front, and a text of 84 bytes is always room enough.
 use mathlib.Core.Path.{_≡_, sym, ap, subst, _∙_}
 use mathlib.Core.List.{List}
 use Prim.Native.Nat.{ℕ, _≤_}
@@ -9,11 +9,11 @@ use denote.Ref.{now}
 use denote.Triple.Clauses.{AtExit}
 use lib.ListN.{length, take, length-take}
 use Rattle.io.specs.Counts.{Counts}
-use Rattle.layer.specs.Changes.{Changed, changed}
+use Rattle.general.specs.Changed.{Changed, changed}
 use Rattle.survey.specs.declared.WriteAnswer.{WriteAnswer}
 use Rattle.survey.specs.declared.WriteAnswer.the-variants.{Written}
-use Rattle.summary.specs.Summary.{reportOf}
-use Rattle.summary.proofs.Room.{fitting, told-written, report-short}
+use Rattle.report_text.specs.Summary.{reportOf}
+use Rattle.report_text.proofs.Room.{fitting, told-written, report-short}
 use Rattle.input.specs.declared.InputAnswer.{InputAnswer}
 use Rattle.input.specs.declared.InputAnswer.the-variants.{Reported, Failed}
 use Rattle.input.specs.Input.{Reports}

@@ -1,6 +1,7 @@
-// Reads a survey file whole from a descriptor and reports on it, for the programs `report` and `reports`. What a read brings no contract can say; what is said of the bytes that it brought is
-// `summary::report`'s to promise, and is promised here of some bytes.
-ghost use Rattle.input.specs.Input.{Fills, Reports};
+// Reads a survey file whole from a descriptor and reports on it, for the programs `report` and `report_files`. What a read brings no contract can say;
+// what is said of the bytes that it brought is `report_text::report`'s to promise, and is promised here of some bytes.
+ghost use Rattle.input.specs.Inner.Input.{Fills};
+ghost use Rattle.input.specs.Input.{Reports};
 use survey::WriteAnswer;
 
 // How many bytes of an input stand at the front of a buffer, if none of the reads failed.
@@ -36,7 +37,7 @@ fn read_whole(from: i32, buffer: &mut [u8]) -> ReadAnswer
 }
 
 // Reads a survey file and puts its report at the front of `text`, if there is room for it; where a read fails, nothing.
-// Of an input that is longer than the buffer the first bytes tell all (summary's specs/Longer.antt).
+// Of an input that is longer than the buffer the first bytes tell all (`longer`, report_text/proofs/Theorems.antt).
 pub fn report(from: i32, text: &mut [u8]) -> InputAnswer
     ensures { λ r. ⌜ Reports r (now (text .entry)) (now (text .exit)) ⌝ }
 {
@@ -45,5 +46,5 @@ pub fn report(from: i32, text: &mut [u8]) -> InputAnswer
     let ReadAnswer::Read(size) = read else {
         return InputAnswer::Failed;
     };
-    InputAnswer::Reported(summary::report(&file[..size], text))
+    InputAnswer::Reported(report_text::report(&file[..size], text))
 }

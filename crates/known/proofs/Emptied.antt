@@ -1,4 +1,4 @@
--- A workspace whose heads are zeros has no known cell. Assumes nothing.
+-- A workspace whose heads are zeros has no known cell.
 use mathlib.Core.Path.{_≡_, sym, subst, _∙_}
 use mathlib.Core.List.{List}
 use Prim.Native.Nat.{ℕ, _*_, _≤_}
@@ -6,9 +6,9 @@ use native.Mathlib.Omega.{arith}
 use lib.ListN.{length, drop, replicate, length-append, length-replicate, length-drop}
 use lib.Seq.{drop-at}
 use Rattle.words.specs.Word.{little}
-use Rattle.words.specs.Laws.{word-zeros}
-use Rattle.known.specs.ChainLaws.{chain-none}
-use Rattle.known.specs.Known.{Roomy, Emptied, bucketOf, cellIn, headIn, linkIn, clearIn}
+use Rattle.words.proofs.Laws.{word-zeros}
+use Rattle.known.proofs.ChainLaws.{chain-none}
+use Rattle.known.specs.Inner.Known.{Roomy, Emptied, bucketOf, cellIn, headIn, linkIn, clearIn}
 
 pub length-clear : (l : List ℕ) (room : ℕ) → 4 * room ≤ length l → length (clearIn l room) ≡ length l
 length-clear l room within =

@@ -1,7 +1,7 @@
--- Two answers that meet a contract of the known cells agree, and so do the bytes that they leave, whatever the bytes were. Assumes nothing.
+-- Two answers that meet a contract of the known cells agree, and so do the bytes that they leave, whatever the bytes were.
 use mathlib.Core.Path.{sym, _∙_}
 use denote.Ref.{at-last}
-use Rattle.refusal.specs.OneAnswer.{OneAnswer, OneExit}
+use Rattle.general.specs.OneAnswer.{OneAnswer, OneExit}
 use Rattle.known.proofs as here
 
 pub mixed-one : OneAnswer 0 here.mixed.Kinds.ps here.mixed.Kinds.r here.mixed.Reads.Post

@@ -1,4 +1,4 @@
--- Where the bytes hold chains, what is sought is found exactly where it is. Assumes nothing.
+-- Where the bytes hold chains, what is sought is found exactly where it is.
 use mathlib.Core.Path.{_≡_, refl, sym, subst}
 use mathlib.Core.Bool.{Bool, true, false}
 use mathlib.Core.List.{List}
@@ -8,11 +8,12 @@ use native.Mathlib.Omega.{arith}
 use Rattle.refusal.specs.declared.Cell.{Cell}
 use Rattle.words.specs.Word.{Bytes}
 use Rattle.cell.specs.Cell.{sameCell}
-use Rattle.cell.specs.Laws.{Words}
-use Rattle.known.specs.Known.{Known, bucketOf, cellIn, headIn, linkIn}
+use Rattle.cell.specs.Terms.{Words}
+use Rattle.known.specs.Inner.Known.{Known, bucketOf, cellIn, headIn, linkIn}
 use Rattle.known.specs.declared.Found.{Found}
-use Rattle.known.specs.Found.{Right}
-use Rattle.known.specs.Seek.{seekIn, findIn, seek-end, seek-here, seek-on}
+use Rattle.known.specs.Inner.Found.{Right}
+use Rattle.known.specs.Inner.Seek.{seekIn, findIn}
+use Rattle.known.proofs.Seek.{seek-end, seek-here, seek-on}
 use Rattle.known.proofs.Walked.{Walked, walked-none, walked-more, link-less, tested-same, tested-other}
 
 module _ (l : List ℕ) (room n : ℕ) (c : Cell) (known : Known l room n) (bytes : Bytes l) (words : Words c) where

@@ -1,4 +1,4 @@
--- The walk along the chain of a cell, over the bytes: from the chain's head, link by link, past records that have another cell. Assumes nothing.
+-- The walk along the chain of a cell, over the bytes: from the chain's head, link by link, past records that have another cell.
 use mathlib.Core.Path.{_≡_, sym, ap, subst, _∙_}
 use mathlib.Core.Bool.{Bool, true, false}
 use mathlib.Core.List.{List}
@@ -6,14 +6,16 @@ use Prim.Native.Nat.{ℕ, _-_, _<_}
 use native.Mathlib.Omega.{arith}
 use borrow.Author.Tests.{eqb-false}
 use Rattle.refusal.specs.declared.Cell.{Cell}
-use Rattle.refusal.specs.Table.{rawOf}
+use Rattle.refusal.specs.Refusals.{rawOf}
 use Rattle.words.specs.Word.{Bytes}
 use Rattle.cell.specs.Cell.{sameCell}
-use Rattle.cell.specs.Laws.{Words, same-cell}
-use Rattle.known.specs.Chain.{Walk, Last}
-use Rattle.known.specs.ChainLaws.{walk-start, walk-next}
-use Rattle.known.specs.Known.{Known, bucketOf, cellIn, headIn, linkIn}
-use Rattle.known.specs.Laws.{bucket-lt, cell-words}
+use Rattle.cell.specs.Terms.{Words}
+use Rattle.cell.proofs.Laws.{same-cell}
+use Rattle.known.proofs.Chain.{Walk}
+use Rattle.known.specs.Inner.Chain.{Last}
+use Rattle.known.proofs.ChainLaws.{walk-start, walk-next}
+use Rattle.known.specs.Inner.Known.{Known, bucketOf, cellIn, headIn, linkIn}
+use Rattle.known.proofs.Laws.{bucket-lt, cell-words}
 
 -- the walk has come to v, and has passed no record with the cell
 abbrev pub Walked : List ℕ → ℕ → ℕ → Cell → ℕ → Type 0

@@ -1,10 +1,23 @@
 // The cells that a walk through the lattice knows, in bytes that its caller lends: records in the order of first sight, found by hash chains.
 ghost use mathlib.Core.Path.{_≡_};
 ghost use Prim.Native.Nat.{_+_, _≤_, _<_};
-ghost use Rattle.known.specs.Known.{Roomy, mixedOf, bucketOf, cellIn, addIn, clearIn};
-ghost use Rattle.known.specs.Seek.{findIn};
-ghost use Rattle.known.specs.Workspace.{isRoom, zeros};
+ghost use Rattle.known.specs.Inner.Known.{Roomy, mixedOf, bucketOf, cellIn, addIn, clearIn};
+ghost use Rattle.known.specs.Inner.Seek.{findIn};
+ghost use Rattle.known.specs.Workspace.{isRoom, zeros, mostRoom};
 use refusal::Cell;
+
+// The most cells or entries that a room may be for.
+pub const MOST_ROOM: usize = 65536;
+
+// The bytes that a workspace needs for each known cell: the head of a chain, and a record.
+pub const KNOWN_WIDTH: usize = 44;
+
+pub const HEAD_WIDTH: usize = 4;
+
+pub const RECORD_WIDTH: usize = 40;
+
+// In a record: the link, behind the cell.
+const LINK_OFFSET: usize = 16;
 
 // Where a cell stands among the known ones.
 pub enum Found {
@@ -12,7 +25,8 @@ pub enum Found {
     Nowhere,
 }
 
-// One word of 32 bits from a cell's four. Cells that stand together fall apart: each factor is 2^32 over a power of the root of a^4 = a + 1, so that no small steps of x, y and z add up to nearly nothing.
+// One word of 32 bits from a cell's four. Cells that stand together fall apart: each factor is 2^32 over a power of the root of a^4 = a + 1, so that
+// no small steps of x, y and z add up to nearly nothing.
 fn mixed(c: Cell) -> u64
     ensures { λ r. ⌜ (r ≡ mixedOf c) × (r < 4294967296) ⌝ }
 {
@@ -25,7 +39,7 @@ fn mixed(c: Cell) -> u64
 
 // The chain on which a cell stands, of as many chains as there is room for cells.
 fn bucket(c: Cell, room: usize) -> usize
-    requires { ⌜ room ≤ 65536 ⌝ }
+    requires { ⌜ room ≤ mostRoom ⌝ }
     requires { ⌜ 0 < room ⌝ }
     ensures { λ r. ⌜ (r ≡ bucketOf c room) × (r < room) ⌝ }
 {
@@ -38,7 +52,7 @@ pub fn cell_at(workspace: &[u8], room: usize, i: usize) -> Cell
     requires { ⌜ i < room ⌝ }
     ensures { λ r. ⌜ r ≡ cellIn (now (workspace .entry)) room i ⌝ }
 {
-    let at = 4 * room + 40 * i;
+    let at = HEAD_WIDTH * room + RECORD_WIDTH * i;
     Cell {
         high: words::read64_little(workspace, at),
         low: words::read64_little(workspace, at + 8),
@@ -51,7 +65,7 @@ pub fn find(workspace: &[u8], room: usize, count: usize, c: Cell) -> Found
     requires { ⌜ count ≤ room ⌝ }
     ensures { λ r. ⌜ r ≡ findIn (now (workspace .entry)) room count c ⌝ }
 {
-    let mut link = words::read32_little(workspace, 4 * bucket(c, room)) as usize;
+    let mut link = words::read32_little(workspace, HEAD_WIDTH * bucket(c, room)) as usize;
     let mut bound = count;
     loop {
         // One test for both: a link of 0, which is none, is far above the bound.
@@ -63,7 +77,10 @@ pub fn find(workspace: &[u8], room: usize, count: usize, c: Cell) -> Found
             return Found::At(i);
         }
         bound = i;
-        link = words::read32_little(workspace, 4 * room + 40 * i + 16) as usize;
+        link = words::read32_little(
+            workspace,
+            HEAD_WIDTH * room + RECORD_WIDTH * i + LINK_OFFSET,
+        ) as usize;
     }
 }
 
@@ -73,12 +90,12 @@ pub fn add(workspace: &mut [u8], room: usize, count: usize, c: Cell)
     requires { ⌜ count < room ⌝ }
     ensures { λ _. ⌜ now (workspace .exit) ≡ addIn (now (workspace .entry)) room count c ⌝ }
 {
-    let head = 4 * bucket(c, room);
-    let at = 4 * room + 40 * count;
+    let head = HEAD_WIDTH * bucket(c, room);
+    let at = HEAD_WIDTH * room + RECORD_WIDTH * count;
     let last = words::read32_little(workspace, head);
     words::write64_little(workspace, at, c.high);
     words::write64_little(workspace, at + 8, c.low);
-    words::write32_little(workspace, at + 16, last);
+    words::write32_little(workspace, at + LINK_OFFSET, last);
     words::write32_little(workspace, head, (count + 1) as u32);
 }
 
@@ -87,7 +104,7 @@ pub fn clear(workspace: &mut [u8], room: usize)
     requires { ⌜ Roomy (now workspace) room ⌝ }
     ensures { λ _. ⌜ now (workspace .exit) ≡ clearIn (now (workspace .entry)) room ⌝ }
 {
-    layer::records::zero(workspace, 0, 4 * room);
+    words::bytes::zero(workspace, 0, HEAD_WIDTH * room);
 }
 
 // A room is named from 1 to 65,536.
@@ -95,7 +112,7 @@ pub fn is_room(n: usize) -> bool
     ensures { λ r. ⌜ r ≡ isRoom n ⌝ }
 {
     if 1 <= n {
-        return n <= 65536;
+        return n <= MOST_ROOM;
     }
     false
 }
@@ -105,5 +122,5 @@ pub fn wipe(workspace: &mut [u8])
     ensures { λ _. ⌜ now (workspace .exit) ≡ zeros (now (workspace .entry)) ⌝ }
 {
     let size = workspace.len();
-    layer::records::zero(workspace, 0, size);
+    words::bytes::zero(workspace, 0, size);
 }

@@ -1,6 +1,14 @@
+pub mod Theorems
+pub mod Laws
+pub mod Fields
+pub mod Fitting
+pub mod Odds
+pub mod SignsLaws
 pub mod Signs
 pub mod Room
 pub mod Answers
+pub mod Spread
 pub mod Points
 pub mod OneAnswer
 pub mod OneParent
+pub mod Split

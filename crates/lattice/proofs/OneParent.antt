@@ -1,5 +1,5 @@
 -- Every lattice point is one of the eight child places of its parent, and so has exactly one: the way back from `child-parent`. A point is twice its halves, and the parent's mending of a half is
--- made good by the step that leads down from it. Assumes nothing.
+-- made good by the step that leads down from it.
 use mathlib.Core.Path.{_≡_, refl, sym, ap, subst, _∙_}
 use mathlib.Core.Bool.{Bool, true, false, not, cond, Bool·beq}
 use mathlib.Core.List.{List·Memᴰ, Memᴰ·cast, Memᴰ·map}
@@ -13,7 +13,6 @@ use denote.Triple.Clauses.{AtExit}
 use borrow.Fn.Kinds.{Dens, resT, endedOf}
 use borrow.Author.Tests.{eqb-true, eqb-false}
 use Rattle.refusal.specs.declared.Coord.{Coord}
-use Rattle.refusal.specs.declared.Refusal.the-variants.{CoordOverflow}
 use Rattle.refusal.specs.declared.Outcome.the-variants.{Answered, Refused}
 use Rattle.lattice.specs.declared.Parity.{Parity}
 use Rattle.lattice.specs.declared.Parity.the-variants.{Even, Odd}
@@ -21,15 +20,17 @@ use Rattle.lattice.specs.declared.ParityAnswer.{ParityAnswer}
 use Rattle.lattice.specs.declared.ParityAnswer.the-variants as parity
 use Rattle.lattice.specs.declared.CoordAnswer.the-variants as coord
 use Rattle.lattice.specs.declared.Children.{Children}
-use Rattle.lattice.specs.Lattice.{at, origin, isOdd, isLatticePoint, parityOf, moved, doubled, childSteps, childPlaces, hasChildRoom, childrenIn, childrenBy, childrenOf, half, halves, lowered, raised, alone, parentBy, parentOf}
-use Rattle.lattice.specs.Signs.{sub-cases}
-use Rattle.lattice.specs.Tables.{has, placed}
-use Rattle.lattice.specs.Odds.{Odds, oddness, parity-odds, parent-of-halves, at-path}
+use Rattle.lattice.specs.Lattice.{at, origin, isOdd, isLatticePoint, parityOf, moved, doubled, childSteps, childPlaces, hasChildRoom, childrenOf, half, halves, lowered, raised, alone, parentOf}
+use Rattle.lattice.proofs.Split.{childrenIn, childrenBy, parentBy}
+use Rattle.lattice.proofs.SignsLaws.{sub-cases}
+use Rattle.general.proofs.Lists.{has, placed}
+use Rattle.lattice.proofs.Odds.{Odds, oddness, parity-odds, parent-of-halves, at-path}
 use Rattle.lattice.proofs.get_parent.Kinds as get-parent-kinds
 use Rattle.lattice.proofs.get_parent.Reads as get-parent
 use Rattle.lattice.proofs.get_children.Kinds as get-children-kinds
 use Rattle.lattice.proofs.get_children.Reads as get-children
-use Rattle.lattice.specs.Laws.{parity-point, point-parity, child-parent, parent-is-point}
+use Rattle.lattice.proofs.Laws.{parity-point, point-parity, child-parent, parent-is-point}
+use Rattle.lattice.specs.Terms.{OnlyParent}
 
 -- ---- one axis
 
@@ -134,13 +135,6 @@ parent-child c p e = by-parity (parityOf c) refl e
     by-parity (parity.Is Even) q f = known (child-by Even c q) f
     by-parity (parity.Is Odd) q f = known (child-by Odd c q) f
 
--- a lattice point, of which another is a child place; and there is no second
-pub record OnlyParent (c p : Coord) : Type 0 where
-  pub told : parentOf c ≡ coord.At p
-  pub point : isLatticePoint p ≡ true
-  pub child : List·Memᴰ c (childPlaces p)
-  pub only : (q : Coord) → isLatticePoint q ≡ true → List·Memᴰ c (childPlaces q) → q ≡ p
-
 -- every lattice point has exactly one parent: the one that `parentOf` tells
 pub one-parent : (c : Coord) → isLatticePoint c ≡ true → (p : Coord) × OnlyParent c p
 unfolding parentOf
@@ -175,18 +169,3 @@ pub told-among-children : (κs : Lfts 0) (a : Dens κs get-parent-kinds.ps) (z :
 told-among-children κs a z e b y f told listed is-parent answered =
     let places = ap (λ (l : Children). l .coords) listed ∙ children-places (b .0) (sym (ap (λ (l : Children). l .outcome) listed) ∙ answered) in
     subst (List·Memᴰ (a .0)) (sym places) (parent-child (a .0) (b .0) (sym told ∙ is-parent))
-
--- the last point of all has a parent, whose children no call lists: one of them would leave 32 bits
-pub last-point : parentOf (at (pos 2147483646) (pos 2147483646) (pos 2147483646)) ≡ coord.At (at (pos 1073741823) (pos 1073741823) (pos 1073741823))
-unfolding parentOf parityOf isLatticePoint
-last-point = refl
-
-pub last-children : childrenOf (at (pos 1073741823) (pos 1073741823) (pos 1073741823)) .outcome ≡ Refused CoordOverflow
-unfolding childrenOf parityOf isLatticePoint hasChildRoom
-last-children = refl
-
--- (3, 3, 1) has the parent (1, 1, 1), and is the sixth that is listed for it
-pub sixth-child : (parentOf (at (pos 3) (pos 3) (pos 1)) ≡ coord.At (at (pos 1) (pos 1) (pos 1)))
-    × (childrenOf (at (pos 1) (pos 1) (pos 1)) .outcome ≡ Answered) × (getD (childrenOf (at (pos 1) (pos 1) (pos 1)) .coords) 5 origin ≡ at (pos 3) (pos 3) (pos 1))
-unfolding childrenOf parentOf parityOf isLatticePoint hasChildRoom childPlaces childSteps
-sixth-child = (refl, refl, refl)

@@ -1,13 +1,15 @@
--- The ends of the ranges, by computation. The known points of the scope document stand in one table, in the top crate. Assumes nothing.
-use mathlib.Core.Path.{_≡_, refl}
+-- The ends of the ranges, by computation. The known points of the scope document stand in one table, in the top crate.
 use mathlib.Core.List.{[], _∷_, map}
+use mathlib.Core.Path.{_≡_, refl}
 use lib.IntN.{pos, negsuc}
-use Rattle.refusal.specs.declared.Coord.{Coord}
+use lib.ListN.{getD}
 use Rattle.refusal.specs.declared.Refusal.the-variants.{CoordOverflow}
-use Rattle.refusal.specs.declared.Outcome.{Outcome}
 use Rattle.refusal.specs.declared.Outcome.the-variants.{Answered, Refused}
+use Rattle.refusal.specs.declared.Coord.{Coord}
+use Rattle.refusal.specs.declared.Outcome.{Outcome}
+use Rattle.lattice.specs.declared.CoordAnswer.the-variants as coord
+use Rattle.lattice.specs.Lattice.{at, origin, isLatticePoint, parityOf, childSteps, childPlaces, hasChildRoom, childrenOf, parentOf, hasNeighborRoom, neighborPlaces, neighborSteps, neighborsOf, manhattan, manhattanOf}
 use Rattle.lattice.specs.declared.NumberAnswer.the-variants as number
-use Rattle.lattice.specs.Lattice.{at, origin, isLatticePoint, parityOf, hasNeighborRoom, neighborPlaces, neighborSteps, neighborsOf, hasChildRoom, childPlaces, childSteps, childrenOf, manhattan, manhattanOf}
 
 abbrev around-of : Coord → Outcome
 around-of c = neighborsOf c .outcome
@@ -37,3 +39,18 @@ child-past = refl
 pub far : map (manhattanOf origin) (at (pos 2147483645) (pos 1) (pos 1) ∷ at (pos 2147483646) (negsuc 1) (pos 0) ∷ at (negsuc 2147483647) (pos 0) (pos 0) ∷ []) ≡ number.Is (pos 2147483647) ∷ number.Refused CoordOverflow ∷ number.Refused CoordOverflow ∷ []
 unfolding manhattanOf parityOf isLatticePoint manhattan
 far = refl
+
+-- the last point of all has a parent, whose children no call lists: one of them would leave 32 bits
+pub last-point : parentOf (at (pos 2147483646) (pos 2147483646) (pos 2147483646)) ≡ coord.At (at (pos 1073741823) (pos 1073741823) (pos 1073741823))
+unfolding parentOf parityOf isLatticePoint
+last-point = refl
+
+pub last-children : childrenOf (at (pos 1073741823) (pos 1073741823) (pos 1073741823)) .outcome ≡ Refused CoordOverflow
+unfolding childrenOf parityOf isLatticePoint hasChildRoom
+last-children = refl
+
+-- (3, 3, 1) has the parent (1, 1, 1), and is the sixth that is listed for it
+pub sixth-child : (parentOf (at (pos 3) (pos 3) (pos 1)) ≡ coord.At (at (pos 1) (pos 1) (pos 1)))
+    × (childrenOf (at (pos 1) (pos 1) (pos 1)) .outcome ≡ Answered) × (getD (childrenOf (at (pos 1) (pos 1) (pos 1)) .coords) 5 origin ≡ at (pos 3) (pos 3) (pos 1))
+unfolding childrenOf parentOf parityOf isLatticePoint hasChildRoom childPlaces childSteps
+sixth-child = (refl, refl, refl)

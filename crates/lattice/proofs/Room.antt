@@ -1,4 +1,4 @@
--- Where there is room, each step of a table fits. Assumes nothing.
+-- Where there is room, each step of a table fits.
 use mathlib.Core.Path.{_≡_, refl, subst}
 use mathlib.Core.Bool.{Bool, true}
 use mathlib.Core.List.{List, [], _∷_}
@@ -7,9 +7,9 @@ use lib.IntN.{_+ℤ_, +ℤ-idr}
 use lib.ListN.{getD}
 use Rattle.refusal.specs.declared.Coord.{Coord}
 use Rattle.lattice.specs.Lattice.{at, origin, moved, doubled, Fitting, neighborSteps, hasNeighborRoom, childSteps, hasChildRoom, halves}
-use Rattle.lattice.specs.Signs.{both}
-use Rattle.lattice.specs.Tables.{passes}
-use Rattle.lattice.specs.Fitting.{short, childlike, moved-fits, doubled-fits}
+use Rattle.general.proofs.Tests.{both}
+use Rattle.general.proofs.Lists.{passes}
+use Rattle.lattice.proofs.Fitting.{short, childlike, moved-fits, doubled-fits}
 use Rattle.lattice.proofs.Signs.{half-near}
 
 -- what a test says of every entry it says of the entry at k, and past the end of no step

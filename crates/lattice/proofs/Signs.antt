@@ -1,4 +1,4 @@
--- Laws of signed numbers of 32 bits: the remainder by 2, halves and the distance from zero. Assumes nothing.
+-- Laws of signed numbers of 32 bits: the remainder by 2, halves and the distance from zero.
 use mathlib.Core.Path.{_≡_, refl, ap}
 use mathlib.Core.Bool.{true, false, not, true≢false}
 use Prim.Native.Nat.{ℕ, zero, suc, _/_, _%_, _≤_, _<_}
@@ -11,7 +11,7 @@ use mir.Syntax.{w32}
 use mir.Val.{SFits, ofZ}
 use borrow.Author.Tests.{le-leb, ltb-true}
 use Rattle.lattice.specs.Lattice.{isOdd, within, half}
-use Rattle.lattice.specs.Signs.{odd-digit}
+use Rattle.lattice.proofs.SignsLaws.{odd-digit}
 
 -- ---- the remainder by 2
 

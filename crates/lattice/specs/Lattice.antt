@@ -1,6 +1,6 @@
 -- "Cell and lattice" of the scope document, as far as it speaks of coordinates, with the tables and the parent of lattice.rs. A coordinate is an integer; that
--- every sum here fits 32 bits is what the ranges say. Each call that takes a point begins with its parity, as LatticeCoord::new does. Definitions only. Assumes nothing.
-use mathlib.Core.Bool.{Bool, true, false, not, cond, _&&_, Bool·beq}
+-- every sum here fits 32 bits is what the ranges say. Each call that takes a point begins with its parity, as LatticeCoord::new does. Definitions only.
+use mathlib.Core.Bool.{Bool, not, cond, _&&_, Bool·beq}
 use mathlib.Core.List.{List, [], _∷_, map}
 use Prim.Native.Nat.{ℕ, _+_, _%_}
 use lib.Dec.{eqb, leb}
@@ -18,15 +18,18 @@ use Rattle.lattice.specs.declared.Parity.the-variants.{Even, Odd}
 use Rattle.lattice.specs.declared.ParityAnswer.{ParityAnswer}
 use Rattle.lattice.specs.declared.ParityAnswer.the-variants as parity
 use Rattle.lattice.specs.declared.CoordAnswer.{CoordAnswer}
-use Rattle.lattice.specs.declared.CoordAnswer.the-variants as coord
 use Rattle.lattice.specs.declared.NumberAnswer.{NumberAnswer}
-use Rattle.lattice.specs.declared.NumberAnswer.the-variants as number
 use Rattle.lattice.specs.declared.Neighbors.{Neighbors}
 use Rattle.lattice.specs.declared.Children.{Children}
+use Rattle.general.specs.Refuse.{refuseUnless}
+use Rattle.lattice.specs.declared.CoordAnswer.the-variants as coord
+use Rattle.lattice.specs.declared.NumberAnswer.the-variants as number
 
+-- the place with these coordinates
 abbrev pub at : ℤ → ℤ → ℤ → Coord
 at x y z = record { x = x; y = y; z = z }
 
+-- the place with all three zero
 abbrev pub origin : Coord
 origin = at (pos 0) (pos 0) (pos 0)
 
@@ -49,8 +52,18 @@ isLatticePoint c = Bool·beq (isOdd (c .x)) (isOdd (c .y)) && Bool·beq (isOdd (
 -- their parity, or refusal 1 with the coordinates
 unfoldable pub parityOf : Coord → ParityAnswer
 unfolding isLatticePoint
-parityOf c = cond (isLatticePoint c) (parity.Is (cond (isOdd (c .x)) Odd Even)) (parity.Refused (InvalidParity c))
+parityOf c = refuseUnless (isLatticePoint c) (parity.Refused (InvalidParity c)) (parity.Is (cond (isOdd (c .x)) Odd Even))
 
+-- what is said of a point by its parity, or of the refusal of it
+abbrev pub onParity : {A : Type 0} → (Refusal → A) → (Parity → A) → ParityAnswer → A
+onParity refused f (parity.Refused r) = refused r
+onParity refused f (parity.Is p) = f p
+
+-- the same of two points: the first is tested first
+abbrev pub onParities : {A : Type 0} → (Refusal → A) → (Parity → Parity → A) → ParityAnswer → ParityAnswer → A
+onParities refused f p q = onParity refused (λ a. onParity refused (f a) q) p
+
+-- the other parity
 abbrev pub oppositeOf : Parity → Parity
 oppositeOf Even = Odd
 oppositeOf Odd = Even
@@ -66,9 +79,11 @@ neighborSteps =
     at p p p ∷ at p p n ∷ at p n p ∷ at p n n ∷ at n p p ∷ at n p n ∷ at n n p ∷ at n n n
     ∷ at (pos 2) o o ∷ at (negsuc 1) o o ∷ at o (pos 2) o ∷ at o (negsuc 1) o ∷ at o o (pos 2) ∷ at o o (negsuc 1) ∷ []
 
+-- a place moved by a step, axis by axis
 abbrev pub moved : Coord → Coord → Coord
 moved c d = at (c .x +ℤ d .x) (c .y +ℤ d .y) (c .z +ℤ d .z)
 
+-- the 14 places around a place, in the order of the steps
 unfoldable pub neighborPlaces : Coord → List Coord
 unfolding neighborSteps
 neighborPlaces c = map (moved c) neighborSteps
@@ -77,28 +92,32 @@ neighborPlaces c = map (moved c) neighborSteps
 abbrev pub within : ℤ → ℤ → ℤ → Bool
 within low high z = leZ low z && leZ z high
 
+-- the greatest number of 32 bits with a sign
+abbrev pub mostNumber : ℕ
+mostNumber = 2147483647
+
+-- whether an integer is a number of 32 bits: the least is one further from 0 than the greatest
+abbrev pub fits32 : ℤ → Bool
+fits32 = within (negsuc mostNumber) (pos mostNumber)
+
 -- "each coordinate is in -2147483646..=2147483645"
 unfoldable pub hasNeighborRoom : Coord → Bool
 hasNeighborRoom c =
     let roomy = within (negsuc 2147483645) (pos 2147483645) in
     roomy (c .x) && (roomy (c .y) && roomy (c .z))
 
--- refused: no coordinate is handed over
+-- "Parity first, then CoordOverflow": an answer about a point, where there is room for it
+abbrev pub spread : {A : Type 0} → (Refusal → A) → Coord → Bool → A → A
+spread refused c room answer = onParity refused (λ p. refuseUnless room (refused CoordOverflow) answer) (parityOf c)
+
+-- refused: no neighbour's coordinates are handed over
 abbrev pub noNeighbors : Refusal → Neighbors
 noNeighbors r = record { outcome = outcome.Refused r; coords = replicate 14 origin }
 
-abbrev pub neighborsIn : Bool → Coord → Neighbors
-neighborsIn true c = record { outcome = outcome.Answered; coords = neighborPlaces c }
-neighborsIn false c = noNeighbors CoordOverflow
-
-abbrev pub neighborsBy : ParityAnswer → Coord → Neighbors
-neighborsBy (parity.Refused r) c = noNeighbors r
-neighborsBy (parity.Is p) c = neighborsIn (hasNeighborRoom c) c
-
--- "Parity first, then CoordOverflow"
+-- the 14 neighbours: "Parity first, then CoordOverflow"
 unfoldable pub neighborsOf : Coord → Neighbors
 unfolding parityOf hasNeighborRoom neighborPlaces
-neighborsOf c = neighborsBy (parityOf c) c
+neighborsOf c = spread noNeighbors c (hasNeighborRoom c) (record { outcome = outcome.Answered; coords = neighborPlaces c })
 
 -- ---- children
 
@@ -110,9 +129,11 @@ childSteps =
     let o = pos 0 in
     at o o o ∷ at (pos 2) o o ∷ at o (pos 2) o ∷ at o o (pos 2) ∷ at p p p ∷ at p p n ∷ at p n p ∷ at p n n ∷ []
 
+-- the same place one resolution finer: each coordinate doubled
 abbrev pub doubled : Coord → Coord
 doubled c = moved c c
 
+-- the places of the eight children, in the order of the steps
 unfoldable pub childPlaces : Coord → List Coord
 unfolding childSteps
 childPlaces c = map (moved (doubled c)) childSteps
@@ -123,21 +144,14 @@ hasChildRoom c =
     let high = pos 1073741822 in
     within (negsuc 1073741823) high (c .x) && (within (negsuc 1073741822) high (c .y) && within (negsuc 1073741822) high (c .z))
 
+-- refused: no child's coordinates are handed over
 abbrev pub noChildren : Refusal → Children
 noChildren r = record { outcome = outcome.Refused r; coords = replicate 8 origin }
 
-abbrev pub childrenIn : Bool → Coord → Children
-childrenIn true c = record { outcome = outcome.Answered; coords = childPlaces c }
-childrenIn false c = noChildren CoordOverflow
-
-abbrev pub childrenBy : ParityAnswer → Coord → Children
-childrenBy (parity.Refused r) c = noChildren r
-childrenBy (parity.Is p) c = childrenIn (hasChildRoom c) c
-
--- parity, then CoordOverflow
+-- the eight children: parity, then CoordOverflow
 unfoldable pub childrenOf : Coord → Children
 unfolding parityOf hasChildRoom childPlaces
-childrenOf c = childrenBy (parityOf c) c
+childrenOf c = spread noChildren c (hasChildRoom c) (record { outcome = outcome.Answered; coords = childPlaces c })
 
 -- ---- parent
 
@@ -145,9 +159,11 @@ childrenOf c = childrenBy (parityOf c) c
 abbrev pub half : ℤ → ℤ
 half z = shrZ z 2
 
+-- one less where the test holds
 abbrev pub lowered : Bool → ℤ → ℤ
 lowered b z = cond b (z +ℤ negsuc 0) z
 
+-- one more where the test holds
 abbrev pub raised : Bool → ℤ → ℤ
 raised b z = cond b (z +ℤ pos 1) z
 
@@ -169,34 +185,33 @@ oddParent q =
     let a = isOdd (q .x) in
     at (q .x) (raised (not (Bool·beq a (isOdd (q .y)))) (q .y)) (raised (not (Bool·beq a (isOdd (q .z)))) (q .z))
 
+-- each coordinate halved
 abbrev pub halves : Coord → Coord
 halves c = at (half (c .x)) (half (c .y)) (half (c .z))
 
-abbrev pub parentBy : ParityAnswer → Coord → CoordAnswer
-parentBy (parity.Refused r) c = coord.Refused r
-parentBy (parity.Is Even) c = coord.At (evenParent (halves c))
-parentBy (parity.Is Odd) c = coord.At (oddParent (halves c))
+-- the parent's point of a point of each parity, by its halves
+abbrev pub parentAs : Parity → Coord → Coord
+parentAs Even q = evenParent q
+parentAs Odd q = oddParent q
 
--- the one lattice point whose child it is: `one-parent` (proofs/OneParent.antt)
+-- the one lattice point whose child it is: `one-parent` of proofs/Theorems.antt
 unfoldable pub parentOf : Coord → CoordAnswer
 unfolding parityOf
-parentOf c = parentBy (parityOf c) c
+parentOf c = onParity coord.Refused (λ p. coord.At (parentAs p (halves c))) (parityOf c)
 
 -- ---- Manhattan distance
 
+-- how far apart two coordinates are on one axis
 abbrev pub apart : ℤ → ℤ → ℕ
 apart a b = natAbs (a -ℤ b)
 
+-- the Manhattan distance of two places: how far apart they are on the three axes, added
 unfoldable pub manhattan : Coord → Coord → ℕ
 manhattan a b = apart (a .x) (b .x) + apart (a .y) (b .y) + apart (a .z) (b .z)
 
-abbrev pub manhattanBy : ParityAnswer → ParityAnswer → ℕ → NumberAnswer
-manhattanBy (parity.Refused r) q n = number.Refused r
-manhattanBy (parity.Is p) (parity.Refused r) n = number.Refused r
-manhattanBy (parity.Is p) (parity.Is q) n = cond (leb n 2147483647) (number.Is (pos n)) (number.Refused CoordOverflow)
-
--- "parity of the first, of the second; CoordOverflow when a difference leaves i32 [...] also when the sum passes 2147483647": a difference that leaves i32 is itself
--- above 2147483647, so the sum decides: `both-tests` (distance/proofs/Differences.antt)
+-- "parity of the first, of the second; CoordOverflow when a difference leaves i32 [...] also when the sum passes 2147483647": a difference that leaves i32 is itself above 2147483647,
+-- so the sum decides: `both-tests` of distance/proofs/Theorems.antt
 unfoldable pub manhattanOf : Coord → Coord → NumberAnswer
 unfolding parityOf manhattan
-manhattanOf a b = manhattanBy (parityOf a) (parityOf b) (manhattan a b)
+manhattanOf a b =
+    onParities number.Refused (λ p q. refuseUnless (leb (manhattan a b) mostNumber) (number.Refused CoordOverflow) (number.Is (pos (manhattan a b)))) (parityOf a) (parityOf b)

@@ -5,7 +5,9 @@ ghost use Prim.Native.Nat.{_<_, _^_};
 ghost use lib.IntN.{natAbs, _-ℤ_};
 ghost use mir.Syntax.{w32};
 ghost use mir.Val.{SFits};
-ghost use Rattle.lattice.specs.Lattice.{isOdd, isLatticePoint, parityOf, oppositeOf, Fitting, at, moved, doubled, within, hasNeighborRoom, neighborPlaces, noNeighbors, neighborsOf, hasChildRoom, childPlaces, noChildren, childrenOf, half, halves, lowered, raised, alone, evenParent, oddParent, parentOf, apart, manhattan, manhattanOf};
+ghost use Rattle.lattice.specs.Lattice.{isOdd, isLatticePoint, parityOf, oppositeOf, Fitting, at, moved, doubled, within, hasNeighborRoom};
+ghost use Rattle.lattice.specs.Lattice.{neighborPlaces, noNeighbors, neighborsOf, hasChildRoom, childPlaces, noChildren, childrenOf, half};
+ghost use Rattle.lattice.specs.Lattice.{halves, lowered, raised, alone, evenParent, oddParent, parentOf, apart, manhattan, manhattanOf};
 use refusal::Coord;
 use refusal::Outcome;
 use refusal::Refusal;
@@ -111,25 +113,37 @@ fn all_three(a: bool, b: bool, d: bool) -> bool
     false
 }
 
+// The coordinates whose neighbours' fit 32 bits.
+const LEAST_WITH_NEIGHBORS: i32 = -2147483646;
+
+const MOST_WITH_NEIGHBORS: i32 = 2147483645;
+
 // A step of two fits, whichever way.
 pub fn has_neighbor_room(c: Coord) -> bool
     ensures { λ r. ⌜ r ≡ hasNeighborRoom c ⌝ }
 {
     all_three(
-        is_within(-2147483646, 2147483645, c.x),
-        is_within(-2147483646, 2147483645, c.y),
-        is_within(-2147483646, 2147483645, c.z),
+        is_within(LEAST_WITH_NEIGHBORS, MOST_WITH_NEIGHBORS, c.x),
+        is_within(LEAST_WITH_NEIGHBORS, MOST_WITH_NEIGHBORS, c.y),
+        is_within(LEAST_WITH_NEIGHBORS, MOST_WITH_NEIGHBORS, c.z),
     )
 }
+
+// The coordinates whose children's fit 32 bits.
+const LEAST_X_WITH_CHILDREN: i32 = -1073741824;
+
+const LEAST_WITH_CHILDREN: i32 = -1073741823;
+
+const MOST_WITH_CHILDREN: i32 = 1073741822;
 
 // Every child's coordinates fit.
 pub fn has_child_room(c: Coord) -> bool
     ensures { λ r. ⌜ r ≡ hasChildRoom c ⌝ }
 {
     all_three(
-        is_within(-1073741824, 1073741822, c.x),
-        is_within(-1073741823, 1073741822, c.y),
-        is_within(-1073741823, 1073741822, c.z),
+        is_within(LEAST_X_WITH_CHILDREN, MOST_WITH_CHILDREN, c.x),
+        is_within(LEAST_WITH_CHILDREN, MOST_WITH_CHILDREN, c.y),
+        is_within(LEAST_WITH_CHILDREN, MOST_WITH_CHILDREN, c.z),
     )
 }
 
@@ -375,6 +389,9 @@ fn apart(a: i32, b: i32) -> u32
     absolute(difference(a, b))
 }
 
+// The greatest number of 32 bits with a sign.
+const MOST_NUMBER: u64 = 2147483647;
+
 // The sum of the three distances, in 64 bits.
 fn manhattan(a: Coord, b: Coord) -> u64
     ensures { λ r. ⌜ r ≡ manhattan a b ⌝ }
@@ -394,7 +411,7 @@ pub fn manhattan_distance_to(a: Coord, b: Coord) -> NumberAnswer
         ParityAnswer::Is(_) => match second {
             ParityAnswer::Refused(r) => NumberAnswer::Refused(r),
             ParityAnswer::Is(_) => {
-                if n <= 2147483647 {
+                if n <= MOST_NUMBER {
                     NumberAnswer::Is(n as i32)
                 } else {
                     NumberAnswer::Refused(Refusal::CoordOverflow)

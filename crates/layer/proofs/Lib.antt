@@ -1,7 +1,8 @@
-mod Copies
-mod Halves
-pub mod Moved
-pub mod Holding
-pub mod Answers
-pub mod Points
+pub mod Theorems
+mod Answers
+mod Rewritten
 pub mod OneAnswer
+pub mod CallAnswers
+pub mod Holding
+pub mod Points
+pub mod Split

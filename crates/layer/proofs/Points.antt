@@ -1,17 +1,18 @@
--- Known points of layers: a table with room for one flag record, one with room for two, one with room for none, and records that do not ascend. Assumes nothing.
+-- Known points of set and remove: a table with room for one flag record, one with room for two, one with room for none, and records that do not ascend.
 use mathlib.Core.Path.{_≡_, refl}
 use mathlib.Core.List.{List, [], _∷_, _++_, flatMap}
 use Prim.Native.Nat.{ℕ}
 use lib.ListN.{replicate}
-use Rattle.refusal.specs.Table.{rawOf}
+use Rattle.refusal.specs.Refusals.{rawOf}
 use Rattle.refusal.specs.declared.Room.the-variants.{Layer}
 use Rattle.refusal.specs.declared.Refusal.the-variants.{NoRoom, BadLayer, BadList}
 use Rattle.words.specs.Word.{number, ordered, word, lowDigits, bytesOf}
 use Rattle.cell.specs.Bytes.{cellAt, cellBytes, fromBytesOf}
-use Rattle.layer.specs.Layer.{roomFor, rowAt, rowsFrom, rowsOf, rowBytes, ascending, isSound, heldOf, withRow, withoutCell, laid}
-use Rattle.layer.specs.Changes.{changed, refilled, setIn, removeIn}
+use Rattle.table.specs.Records.{rowAt, rowsFrom, rowsOf, rowBytes, ascending, isSound, heldOf, withRow, withoutCell, laid, refilled}
+use Rattle.general.specs.Changed.{changed}
+use Rattle.layer.specs.Changes.{setIn, removeIn}
 use Rattle.layer.specs.declared.HeldAnswer.the-variants.{Kept, Nothing}
-use Rattle.layer.specs.declared.CountAnswer.the-variants.{Cells, Refused}
+use Rattle.refusal.specs.declared.CountAnswer.the-variants.{Cells, Refused}
 
 -- the cell whose 16 bytes are all b
 abbrev cell : ℕ → List ℕ
@@ -80,10 +81,3 @@ short-cell-refused = refl
 pub short-table-refused : setIn 20 (replicate 19 0) 0 (cell 7) 1 ≡ changed (Refused (NoRoom Layer)) (replicate 19 0)
 unfolding setIn fromBytesOf isSound ascending rowsOf rowsFrom rowAt withRow rawOf cellAt cellBytes rowBytes bytesOf lowDigits laid flatMap word number ordered
 short-table-refused = refl
-
--- the largest has room for 1,024, of either kind, and for no more
-pub most-flags : roomFor 20 (replicate 20480 0) ≡ 1024
-most-flags = refl
-
-pub most-values : roomFor 24 (replicate 24600 0) ≡ 1024
-most-values = refl

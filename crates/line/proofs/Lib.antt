@@ -1,2 +1,4 @@
+pub mod Laws
 mod Samples
 mod OneAnswer
+pub mod Split

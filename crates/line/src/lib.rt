@@ -7,15 +7,17 @@ ghost use lib.Dec.{leb};
 ghost use lib.IntN.{natAbs};
 ghost use lib.ListN.{length};
 ghost use Rattle.cell.specs.Cell.{coordOf};
-ghost use Rattle.layer.specs.Changes.{changed};
-ghost use Rattle.listing.specs.Listing.{cells, roomIn, cellsLaid, listedIn};
-ghost use Rattle.line.specs.Line.{apart, areShort, lineShort, stepsOf, lineBetween, sampleOf, samplePoint, fractionOf, sampled, cellsAlong, lineOf, traceIn};
+ghost use Rattle.general.specs.Changed.{changed};
+ghost use Rattle.cell_list.specs.Listing.{cells, roomIn, cellsLaid, listedIn};
+ghost use Rattle.line.specs.Line.{apart, areShort, lineShort, stepsOf, lineBetween, sampleOf, samplePoint, fractionOf, sampled, cellsAlong};
+ghost use Rattle.line.specs.Line.{lineOf, traceIn};
+ghost use Rattle.line.specs.Inner.Steps.{mostSteps};
 use cell::CellAnswer;
 use lattice::CoordAnswer;
 use lattice::ParityAnswer;
-use layer::CountAnswer;
 use refusal::Cell;
 use refusal::Coord;
+use refusal::CountAnswer;
 use refusal::Refusal;
 use refusal::Room;
 use snap::Point;
@@ -55,8 +57,8 @@ fn point_at(line: Line, t: f64) -> Point
 
 // How much of the way sample i has gone.
 fn fraction(i: u64, steps: u64) -> f64
-    requires { ⌜ i ≤ 4294967296 ⌝ }
-    requires { ⌜ steps ≤ 4294967296 ⌝ }
+    requires { ⌜ i ≤ mostSteps ⌝ }
+    requires { ⌜ steps ≤ mostSteps ⌝ }
     ensures { λ r. ⌜ r ≡ fractionOf i steps ⌝ }
 {
     i as f64 / steps as f64
@@ -64,8 +66,8 @@ fn fraction(i: u64, steps: u64) -> f64
 
 // What sample i adds to a list that ends with `last`.
 fn sampled(line: Line, last: Cell, i: u64) -> Sample
-    requires { ⌜ i ≤ 4294967296 ⌝ }
-    requires { ⌜ line .steps ≤ 4294967296 ⌝ }
+    requires { ⌜ i ≤ mostSteps ⌝ }
+    requires { ⌜ line .steps ≤ mostSteps ⌝ }
     ensures { λ r. ⌜ r ≡ sampled line last i ⌝ }
 {
     let place = snap::physical_to_lattice(point_at(line, fraction(i, line.steps)), 0);
@@ -90,7 +92,7 @@ fn sampled(line: Line, last: Cell, i: u64) -> Sample
 
 // Whether the list has at most so many cells; it is left as soon as it has more.
 fn fits(line: Line, room: usize) -> bool
-    requires { ⌜ line .steps ≤ 4294967296 ⌝ }
+    requires { ⌜ line .steps ≤ mostSteps ⌝ }
     ensures { λ r. ⌜ r ≡ leb (length (cellsAlong line)) room ⌝ }
 {
     let mut last = line.start;
@@ -117,12 +119,12 @@ fn fits(line: Line, room: usize) -> bool
 
 // The list at the front of a buffer that holds it, and how many cells it has.
 fn write(line: Line, output: &mut [u8]) -> usize
-    requires { ⌜ line .steps ≤ 4294967296 ⌝ }
+    requires { ⌜ line .steps ≤ mostSteps ⌝ }
     requires { ⌜ length (cellsAlong line) ≤ roomIn (now output) ⌝ }
     ensures { λ r. ⌜ r ≡ length (cellsAlong line) ⌝ }
     ensures { λ r. ⌜ now (output .exit) ≡ cellsLaid (cellsAlong line) (now (output .entry)) ⌝ }
 {
-    listing::put(output, 0, line.start);
+    cell_list::put(output, 0, line.start);
     let mut last = line.start;
     let mut count = 1;
     let mut i = 1;
@@ -130,7 +132,7 @@ fn write(line: Line, output: &mut [u8]) -> usize
         match sampled(line, last, i) {
             Sample::Dropped => {}
             Sample::New(c) => {
-                listing::put(output, count, c);
+                cell_list::put(output, count, c);
                 last = c;
                 count += 1;
             }
@@ -140,13 +142,13 @@ fn write(line: Line, output: &mut [u8]) -> usize
     if cell::same(last, line.end) {
         return count;
     }
-    listing::put(output, count, line.end);
+    cell_list::put(output, count, line.end);
     count + 1
 }
 
 // The same; where the list cannot be longer, without counting.
 fn has_room(line: Line, room: usize) -> bool
-    requires { ⌜ line .steps ≤ 4294967296 ⌝ }
+    requires { ⌜ line .steps ≤ mostSteps ⌝ }
     ensures { λ r. ⌜ r ≡ leb (length (cellsAlong line)) room ⌝ }
 {
     if line.steps + 2 <= room as u64 {
@@ -157,10 +159,10 @@ fn has_room(line: Line, room: usize) -> bool
 
 // The list into a buffer. Its room is tested before a cell is written, so that a refusal leaves the buffer as it was.
 fn listed(line: Line, output: &mut [u8]) -> CountAnswer
-    requires { ⌜ line .steps ≤ 4294967296 ⌝ }
+    requires { ⌜ line .steps ≤ mostSteps ⌝ }
     ensures { λ r. ⌜ changed r (now (output .exit)) ≡ listedIn (cells (cellsAlong line)) (now (output .entry)) ⌝ }
 {
-    if has_room(line, listing::room(output)) {
+    if has_room(line, cell_list::room(output)) {
         return CountAnswer::Cells(write(line, output));
     }
     CountAnswer::Refused(Refusal::NoRoom(Room::Output))
@@ -170,10 +172,10 @@ fn listed(line: Line, output: &mut [u8]) -> CountAnswer
 fn single(c: Cell, output: &mut [u8]) -> CountAnswer
     ensures { λ r. ⌜ changed r (now (output .exit)) ≡ listedIn (cells (c ∷ [])) (now (output .entry)) ⌝ }
 {
-    if listing::room(output) == 0 {
+    if cell_list::room(output) == 0 {
         return CountAnswer::Refused(Refusal::NoRoom(Room::Output));
     }
-    listing::put(output, 0, c);
+    cell_list::put(output, 0, c);
     CountAnswer::Cells(1)
 }
 
@@ -212,14 +214,16 @@ fn larger(a: u64, b: u64) -> u64
 
 // Twice the largest difference.
 fn steps(by: Coord) -> u64
-    ensures { λ r. ⌜ (r ≡ stepsOf by) × (r ≤ 4294967296) ⌝ }
+    ensures { λ r. ⌜ (r ≡ stepsOf by) × (r ≤ mostSteps) ⌝ }
 {
     2 * larger(absolute(by.x), larger(absolute(by.y), absolute(by.z)))
 }
 
 // The line between two cells of one parity each that are not the same, or CoordOverflow.
 fn stretched(start: Cell, end: Cell, output: &mut [u8]) -> CountAnswer
-    ensures { λ r. ⌜ changed r (now (output .exit)) ≡ listedIn (lineShort (areShort (apart (coordOf start) (coordOf end))) (lineBetween start end)) (now (output .entry)) ⌝ }
+    ensures { λ r.
+        ⌜ changed r (now (output .exit))
+        ≡ listedIn (lineShort (areShort (apart (coordOf start) (coordOf end))) (lineBetween start end)) (now (output .entry)) ⌝ }
 {
     let from = cell::coord(start);
     let to = cell::coord(end);

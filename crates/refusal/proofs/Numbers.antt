@@ -1,10 +1,10 @@
--- What a number that is told says of the refusal: 0 is none, so that it can say that a call answered; 7 is SearchLimitExceeded. Assumes nothing.
+-- What a number that is told says of the refusal: 0 is none, so that it can say that a call answered; 7 is SearchLimitExceeded.
 use mathlib.Core.Path.{_≡_, refl}
 use native.Mathlib.Omega.{arith}
 use Rattle.refusal.specs.declared.Spent.{Spent}
 use Rattle.refusal.specs.declared.Refusal.{Refusal}
 use Rattle.refusal.specs.declared.Refusal.the-variants.{InvalidParity, NoParent, NoChildren, OutOfRange, NoValues, HasNan, SearchLimitExceeded, NoPathFound, CoordOverflow, NoRoom, BadWorkspace, BadFile, BadList, BadLayer, BadRule}
-use Rattle.refusal.specs.Table.{numberOf}
+use Rattle.refusal.specs.Refusals.{numberOf}
 
 -- no refusal is told as an answer
 pub refused-number : (r : Refusal) → numberOf r ≡ 0 → ⊥

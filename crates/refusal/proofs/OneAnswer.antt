@@ -1,13 +1,10 @@
--- Two answers that meet a public function's contract agree. Assumes nothing.
+-- Two answers that meet a public function's contract agree.
 use mathlib.Core.Path.{sym, _∙_}
-use Rattle.refusal.specs.OneAnswer.{OneAnswer}
-use Rattle.refusal.proofs.row_of.Kinds as row-of-kinds
-use Rattle.refusal.proofs.row_of.Reads as row-of
-use Rattle.refusal.proofs.number.Kinds as number-kinds
-use Rattle.refusal.proofs.number.Reads as number
+use Rattle.general.specs.OneAnswer.{OneAnswer}
+use Rattle.refusal.proofs as here
 
-pub row-of-one : OneAnswer 0 row-of-kinds.ps row-of-kinds.r row-of.Post
+pub row-of-one : OneAnswer 0 here.row_of.Kinds.ps here.row_of.Kinds.r here.row_of.Reads.Post
 row-of-one κs a z z′ e e′ p q = p ∙ sym q
 
-pub number-one : OneAnswer 0 number-kinds.ps number-kinds.r number.Post
+pub number-one : OneAnswer 0 here.number.Kinds.ps here.number.Kinds.r here.number.Reads.Post
 number-one κs a z z′ e e′ p q = p ∙ sym q

@@ -1,6 +1,6 @@
 // What a call answers when it has no answer: the fifteen refusals of the scope document, with what each carries.
 ghost use mathlib.Core.Path.{_≡_};
-ghost use Rattle.refusal.specs.Table.{carrying, bare, rowOf, numberOf, roomOf};
+ghost use Rattle.refusal.specs.Refusals.{carrying, carryingNothing, rowOf, numberOf, roomOf};
 
 // A place of the lattice. It is a lattice point where its coordinates are all even or all odd.
 pub struct Coord {
@@ -68,7 +68,7 @@ pub enum Outcome {
 }
 
 // A refusal's row of the table: its number, and what it carries. What it does not carry is 0.
-pub struct Row {
+pub struct RefusalRow {
     pub number: u32,
     pub coord: Coord,
     pub spent: Spent,
@@ -102,7 +102,7 @@ fn room_number(r: Room) -> u32
     }
 }
 
-const BARE: Row = Row {
+const CARRYING_NOTHING: RefusalRow = RefusalRow {
     number: 0,
     coord: NO_COORD,
     spent: NONE_SPENT,
@@ -111,45 +111,75 @@ const BARE: Row = Row {
     place: 0,
 };
 
-pub fn row_of(r: Refusal) -> Row
+pub fn row_of(r: Refusal) -> RefusalRow
     ensures { λ t. ⌜ t ≡ rowOf r ⌝ }
 {
     match r {
-        Refusal::InvalidParity(coord) => Row {
+        Refusal::InvalidParity(coord) => RefusalRow {
             number: 1,
             coord,
-            ..BARE
+            ..CARRYING_NOTHING
         },
-        Refusal::NoParent => Row { number: 2, ..BARE },
-        Refusal::NoChildren => Row { number: 3, ..BARE },
-        Refusal::OutOfRange => Row { number: 4, ..BARE },
-        Refusal::NoValues => Row { number: 5, ..BARE },
-        Refusal::HasNan => Row { number: 6, ..BARE },
-        Refusal::SearchLimitExceeded(spent) => Row {
+        Refusal::NoParent => RefusalRow {
+            number: 2,
+            ..CARRYING_NOTHING
+        },
+        Refusal::NoChildren => RefusalRow {
+            number: 3,
+            ..CARRYING_NOTHING
+        },
+        Refusal::OutOfRange => RefusalRow {
+            number: 4,
+            ..CARRYING_NOTHING
+        },
+        Refusal::NoValues => RefusalRow {
+            number: 5,
+            ..CARRYING_NOTHING
+        },
+        Refusal::HasNan => RefusalRow {
+            number: 6,
+            ..CARRYING_NOTHING
+        },
+        Refusal::SearchLimitExceeded(spent) => RefusalRow {
             number: 7,
             spent,
-            ..BARE
+            ..CARRYING_NOTHING
         },
-        Refusal::NoPathFound(ends) => Row {
+        Refusal::NoPathFound(ends) => RefusalRow {
             number: 8,
             ends,
-            ..BARE
+            ..CARRYING_NOTHING
         },
-        Refusal::CoordOverflow => Row { number: 9, ..BARE },
-        Refusal::NoRoom(room) => Row {
+        Refusal::CoordOverflow => RefusalRow {
+            number: 9,
+            ..CARRYING_NOTHING
+        },
+        Refusal::NoRoom(room) => RefusalRow {
             number: 10,
             room: room_number(room),
-            ..BARE
+            ..CARRYING_NOTHING
         },
-        Refusal::BadWorkspace => Row { number: 11, ..BARE },
-        Refusal::BadFile(place) => Row {
+        Refusal::BadWorkspace => RefusalRow {
+            number: 11,
+            ..CARRYING_NOTHING
+        },
+        Refusal::BadFile(place) => RefusalRow {
             number: 12,
             place,
-            ..BARE
+            ..CARRYING_NOTHING
         },
-        Refusal::BadList => Row { number: 13, ..BARE },
-        Refusal::BadLayer => Row { number: 14, ..BARE },
-        Refusal::BadRule => Row { number: 15, ..BARE },
+        Refusal::BadList => RefusalRow {
+            number: 13,
+            ..CARRYING_NOTHING
+        },
+        Refusal::BadLayer => RefusalRow {
+            number: 14,
+            ..CARRYING_NOTHING
+        },
+        Refusal::BadRule => RefusalRow {
+            number: 15,
+            ..CARRYING_NOTHING
+        },
     }
 }
 
@@ -157,4 +187,10 @@ pub fn number(r: Refusal) -> u32
     ensures { λ n. ⌜ n ≡ numberOf r ⌝ }
 {
     row_of(r).number
+}
+
+// How many cells a call lists, or a layer has.
+pub enum CountAnswer {
+    Cells(usize),
+    Refused(Refusal),
 }

@@ -1,4 +1,4 @@
--- One cell: its neighbours are seen, or why it has none. Assumes nothing.
+-- One cell: its neighbours are seen, or why it has none.
 use mathlib.Core.Path.{_≡_, refl, sym, ap, subst, _∙_}
 use mathlib.Core.List.{List}
 use Prim.Native.Nat.{ℕ, _-_}
@@ -12,7 +12,7 @@ use Rattle.ring.specs.declared.Rooms.{Rooms}
 use Rattle.ring.specs.declared.Walked.{Walked}
 use Rattle.ring.specs.declared.Walked.the-variants.{Stopped}
 use Rattle.ring.specs.Ring.{Sight, seeAll, expandInto, expand}
-use Rattle.ring.specs.State.{sightIn, Shows, Sees}
+use Rattle.ring.specs.Inner.State.{sightIn, Shows, Sees}
 
 -- the neighbours that were asked for, and their outcome
 expanded-into : (rooms : Rooms) (others : ℕ) (c : Cell) (s : Sight) {near : Neighbors} {o : Outcome} → near ≡ neighborsOf c → near .outcome ≡ o → expand rooms others c s ≡ expandInto rooms others o (near .cells) s

@@ -1,4 +1,4 @@
--- A walk that has come to its last cells lists them behind those of the records before them, which a ring has listed and a shell has not. Assumes nothing.
+-- A walk that has come to its last cells lists them behind those of the records before them, which a ring has listed and a shell has not.
 use mathlib.Core.Path.{_≡_, refl, sym, ap, _∙_}
 use mathlib.Core.Bool.{Bool, true, false, cond}
 use mathlib.Core.List.{List, [], _++_}
@@ -9,15 +9,15 @@ use lib.ListN.{length}
 use Rattle.refusal.specs.declared.Cell.{Cell}
 use Rattle.refusal.specs.declared.Room.the-variants.{Output}
 use Rattle.refusal.specs.declared.Refusal.the-variants.{NoRoom}
-use Rattle.layer.specs.Changes.{changed}
-use Rattle.layer.specs.declared.CountAnswer.the-variants as count
-use Rattle.known.specs.Known.{cellsIn, knownCells}
-use Rattle.known.specs.Laws.{length-cells, cells-joined}
-use Rattle.listing.specs.Listing.{cellsLaid}
+use Rattle.general.specs.Changed.{changed}
+use Rattle.refusal.specs.declared.CountAnswer.the-variants as count
+use Rattle.known.specs.Inner.Known.{cellsIn, knownCells}
+use Rattle.known.proofs.Laws.{length-cells, cells-joined}
+use Rattle.cell_list.specs.Listing.{cellsLaid}
 use Rattle.ring.specs.declared.Rooms.{Rooms}
 use Rattle.ring.specs.Ring.{Walk, listAll, listedBy}
-use Rattle.ring.specs.State.{cellsBetween, sightIn}
-use Rattle.ring.specs.ListedLaws.{all-listed, not-all-listed}
+use Rattle.ring.specs.Inner.State.{cellsBetween, sightIn}
+use Rattle.ring.proofs.ListedLaws.{all-listed, not-all-listed}
 
 -- the first record to be listed: of all, or of the last ones
 abbrev pub firstOf : Bool → ℕ → ℕ

@@ -1,4 +1,4 @@
--- The cells at one number of steps: each is listed, then expanded, and what is left of them goes on from there. Assumes nothing.
+-- The cells at one number of steps: each is listed, then expanded, and what is left of them goes on from there.
 use mathlib.Core.Path.{_≡_, refl, sym, ap, ap₂, subst, _∙_}
 use mathlib.Core.Bool.{Bool, true, false, cond, false≢true}
 use mathlib.Core.List.{List, [], _∷_, _++_}
@@ -11,14 +11,14 @@ use Rattle.refusal.specs.declared.Cell.{Cell}
 use Rattle.refusal.specs.declared.Room.the-variants.{Output}
 use Rattle.refusal.specs.declared.Refusal.{Refusal}
 use Rattle.refusal.specs.declared.Refusal.the-variants.{NoRoom}
-use Rattle.known.specs.Known.{cellIn, knownCells, Known}
-use Rattle.known.specs.Laws.{length-cells, cells-more}
+use Rattle.known.specs.Inner.Known.{cellIn, knownCells, Known}
+use Rattle.known.proofs.Laws.{length-cells, cells-more}
 use Rattle.ring.specs.declared.Rooms.{Rooms}
 use Rattle.ring.specs.declared.Walked.{Walked}
 use Rattle.ring.specs.declared.Walked.the-variants.{Going, Stopped}
 use Rattle.ring.specs.Ring.{sight, Walk, going, stopped, andThen, expand, list, listIf, level}
-use Rattle.ring.specs.State.{cellsBetween, sightIn, Grown, Shows, Sees, Lists}
-use Rattle.ring.specs.StateLaws.{grown-none, grown-twice, none-between, first-between, length-between}
+use Rattle.ring.specs.Inner.State.{cellsBetween, sightIn, Grown, Shows, Sees, Lists}
+use Rattle.ring.proofs.StateLaws.{grown-none, grown-twice, none-between, first-between, length-between}
 
 -- ---- listing
 

@@ -1,3 +1,13 @@
+pub mod Theorems
+pub mod ReachLaws
+pub mod WalkLaws
+pub mod SightLaws
+pub mod RingLaws
+pub mod RingParts
+pub mod AmongLaws
+pub mod StateLaws
+pub mod ListedLaws
+pub mod CallLaws
 pub mod Points
 pub mod Seen
 pub mod SeenAll
@@ -9,3 +19,4 @@ pub mod Written
 pub mod Finished
 pub mod Ringed
 pub mod OneAnswer
+pub mod Split

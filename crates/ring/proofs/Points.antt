@@ -1,4 +1,4 @@
--- Sizes and rooms of rings, by computation. Assumes nothing.
+-- Sizes and rooms of rings, by computation.
 use mathlib.Core.Path.{_≡_, refl}
 use mathlib.Core.Bool.{Bool, true, false}
 use mathlib.Core.List.{[]}
@@ -7,10 +7,10 @@ use lib.IntN.{pos}
 use Rattle.refusal.specs.declared.Cell.{Cell}
 use Rattle.refusal.specs.declared.Room.the-variants.{Known, Waiting, Output}
 use Rattle.refusal.specs.declared.Refusal.the-variants.{NoRoom, InvalidParity}
-use Rattle.refusal.specs.Table.{rawOf}
+use Rattle.refusal.specs.Refusals.{rawOf}
 use Rattle.lattice.specs.Lattice.{at}
-use Rattle.layer.specs.declared.CountAnswer.{CountAnswer}
-use Rattle.layer.specs.declared.CountAnswer.the-variants.{Cells, Refused}
+use Rattle.refusal.specs.declared.CountAnswer.{CountAnswer}
+use Rattle.refusal.specs.declared.CountAnswer.the-variants.{Cells, Refused}
 use Rattle.ring.specs.declared.Rooms.{Rooms}
 use Rattle.ring.specs.Ring.{walkOf, listedBy}
 

@@ -1,4 +1,4 @@
--- One neighbour: known already, or noted if there is known room, then waiting room. Assumes nothing.
+-- One neighbour: known already, or noted if there is known room, then waiting room.
 use mathlib.Core.Path.{_≡_, refl, sym, ap, _∙_}
 use mathlib.Core.Bool.{Bool, true, false, cond}
 use mathlib.Core.List.{List}
@@ -11,17 +11,17 @@ use Rattle.refusal.specs.declared.Cell.{Cell}
 use Rattle.refusal.specs.declared.Room.the-variants as room
 use Rattle.refusal.specs.declared.Refusal.the-variants.{NoRoom}
 use Rattle.words.specs.Word.{Bytes}
-use Rattle.cell.specs.Laws.{Words}
+use Rattle.cell.specs.Terms.{Words}
 use Rattle.known.specs.declared.Found.the-variants.{At, Nowhere}
-use Rattle.known.specs.Found.{Right}
-use Rattle.known.specs.Known.{knownCells, Known, Added}
-use Rattle.known.specs.Laws.{length-cells, member-words, found-member, nowhere-member}
+use Rattle.known.specs.Inner.Found.{Right}
+use Rattle.known.specs.Inner.Known.{knownCells, Known, Added}
+use Rattle.known.proofs.Laws.{length-cells, member-words, found-member, nowhere-member}
 use Rattle.ring.specs.declared.Rooms.{Rooms}
 use Rattle.ring.specs.declared.Walked.the-variants.{Going, Stopped}
 use Rattle.ring.specs.Ring.{going, stopped, noted, note, see}
-use Rattle.ring.specs.AmongLaws.{among-member, among-none}
-use Rattle.ring.specs.State.{sightIn, Sees}
-use Rattle.ring.specs.StateLaws.{grown-none, grown-added, length-between, sight-added}
+use Rattle.ring.proofs.AmongLaws.{among-member, among-none}
+use Rattle.ring.specs.Inner.State.{sightIn, Sees}
+use Rattle.ring.proofs.StateLaws.{grown-none, grown-added, length-between, sight-added}
 
 module _ (rooms : Rooms) (next n : ℕ) (l : List ℕ) (c : Cell) (known : Known l (rooms .known) n) where
   -- a known cell is not noted again

@@ -1,4 +1,4 @@
--- Neighbours one after the other: what is left of them, seen from what was seen so far, is what all of them are from the start. Assumes nothing.
+-- Neighbours one after the other: what is left of them, seen from what was seen so far, is what all of them are from the start.
 use mathlib.Core.Path.{_≡_, refl, sym, ap, subst, _∙_}
 use mathlib.Core.Bool.{Bool, true}
 use mathlib.Core.List.{List, []}
@@ -9,13 +9,13 @@ use lib.ListN.{length, getD, drop, drop-of-length-le}
 use lib.Seq.{drop-cons}
 use Rattle.refusal.specs.declared.Cell.{Cell}
 use Rattle.refusal.specs.declared.Refusal.{Refusal}
-use Rattle.known.specs.Known.{Known}
+use Rattle.known.specs.Inner.Known.{Known}
 use Rattle.ring.specs.declared.Rooms.{Rooms}
 use Rattle.ring.specs.declared.Walked.{Walked}
 use Rattle.ring.specs.declared.Walked.the-variants.{Going, Stopped}
 use Rattle.ring.specs.Ring.{Sight, Walk, andThen, see, seeAll}
-use Rattle.ring.specs.State.{sightIn, Grown, Sees}
-use Rattle.ring.specs.StateLaws.{grown-none, grown-twice}
+use Rattle.ring.specs.Inner.State.{sightIn, Grown, Sees}
+use Rattle.ring.proofs.StateLaws.{grown-none, grown-twice}
 
 -- what all waiting cells see does not depend on which: the workspace's part of it
 module _ (rooms : Rooms) (next n : ℕ) (l l′ : List ℕ) (f : ℕ → Sight → Walk) (before : next ≤ n) where

@@ -1,4 +1,4 @@
--- The walk from a centre: the table is emptied, the centre known, level after level walked, and the last cells listed. Assumes nothing.
+-- The walk from a centre: the table is emptied, the centre known, level after level walked, and the last cells listed.
 use mathlib.Core.Path.{_≡_, refl, sym, ap, ap₂, subst, _∙_}
 use mathlib.Core.Bool.{Bool, true, false, cond}
 use mathlib.Core.List.{List, [], _∷_}
@@ -6,16 +6,16 @@ use Prim.Native.Nat.{ℕ}
 use lib.ListN.{length}
 use Rattle.refusal.specs.declared.Cell.{Cell}
 use Rattle.refusal.specs.declared.Refusal.{Refusal}
-use Rattle.layer.specs.Changes.{Changed, changed}
-use Rattle.layer.specs.declared.CountAnswer.{CountAnswer}
-use Rattle.layer.specs.declared.CountAnswer.the-variants as count
-use Rattle.known.specs.Known.{cellsIn, knownCells, Added, Emptied}
+use Rattle.general.specs.Changed.{Changed, changed}
+use Rattle.refusal.specs.declared.CountAnswer.{CountAnswer}
+use Rattle.refusal.specs.declared.CountAnswer.the-variants as count
+use Rattle.known.specs.Inner.Known.{cellsIn, knownCells, Added, Emptied}
 use Rattle.ring.specs.declared.Rooms.{Rooms}
 use Rattle.ring.specs.declared.Span.{Span}
 use Rattle.ring.specs.declared.Reached.{Reached}
 use Rattle.ring.specs.declared.Reached.the-variants as reached
 use Rattle.ring.specs.Ring.{sight, Walk, listAll, levels, walkOf, listedBy}
-use Rattle.ring.specs.State.{cellsBetween, sightIn, Last, Reaches}
+use Rattle.ring.specs.Inner.State.{cellsBetween, sightIn, Last, Reaches}
 
 none-listed : (every : Bool) → _≡_ {A = List Cell} (cond every [] []) []
 none-listed true = refl

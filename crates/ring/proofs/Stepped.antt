@@ -1,4 +1,4 @@
--- One level after the other, down to the last cells. Assumes nothing.
+-- One level after the other, down to the last cells.
 use mathlib.Core.Path.{_≡_, refl, sym, ap, ap₂, subst, _∙_}
 use mathlib.Core.Bool.{Bool, true}
 use mathlib.Core.List.{List, []}
@@ -7,13 +7,13 @@ use native.Mathlib.Omega.{arith}
 use lib.ListN.{length}
 use Rattle.refusal.specs.declared.Cell.{Cell}
 use Rattle.refusal.specs.declared.Refusal.{Refusal}
-use Rattle.known.specs.Known.{Known}
+use Rattle.known.specs.Inner.Known.{Known}
 use Rattle.ring.specs.declared.Rooms.{Rooms}
 use Rattle.ring.specs.declared.Walked.{Walked}
 use Rattle.ring.specs.declared.Walked.the-variants.{Going, Stopped}
 use Rattle.ring.specs.Ring.{sight, Walk, going, stopped, andThen, level, listAll, further, levels}
-use Rattle.ring.specs.State.{cellsBetween, sightIn, Shows, Lists, Last}
-use Rattle.ring.specs.StateLaws.{none-between, sight-further}
+use Rattle.ring.specs.Inner.State.{cellsBetween, sightIn, Shows, Lists, Last}
+use Rattle.ring.proofs.StateLaws.{none-between, sight-further}
 
 -- where no cell is left, the other steps change nothing
 levels-empty : (every : Bool) (rooms : Rooms) (k : ℕ) (known listed : List Cell) → levels every rooms k [] (sight known [] listed) ≡ going (sight known [] listed)

@@ -1,14 +1,15 @@
--- The cells of the first records of a span at the front of an output that has room for the span. Assumes nothing.
+-- The cells of the first records of a span at the front of an output that has room for the span.
 use mathlib.Core.Path.{_≡_, sym, ap, ap₂, _∙_}
 use mathlib.Core.List.{List, [], _∷_, _++_}
 use Prim.Native.Nat.{ℕ, _+_, _*_, _≤_, _<_}
 use native.Mathlib.Omega.{arith}
 use lib.ListN.{length}
 use Rattle.refusal.specs.declared.Cell.{Cell}
-use Rattle.known.specs.Known.{cellIn, cellsIn}
-use Rattle.known.specs.Laws.{length-cells, cells-more}
-use Rattle.listing.specs.Listing.{roomIn, cellsLaid, cellPut}
-use Rattle.listing.specs.Laws.{no-cells-laid, cells-within, length-cells-laid, cell-appended}
+use Rattle.known.specs.Inner.Known.{cellIn, cellsIn}
+use Rattle.known.proofs.Laws.{length-cells, cells-more}
+use Rattle.cell_list.specs.Listing.{roomIn, cellsLaid}
+use Rattle.cell_list.specs.Inner.Listing.{cellPut}
+use Rattle.cell_list.proofs.Laws.{no-cells-laid, cells-within, length-cells-laid, cell-appended}
 
 -- i cells of the span are written
 pub record Written (w : List ℕ) (room from size : ℕ) (l l′ : List ℕ) (i : ℕ) : Type 0 where

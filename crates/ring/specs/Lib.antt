@@ -1,12 +1,4 @@
 pub mod Ring
-pub mod State
 pub mod Reach
-pub mod ReachLaws
-pub mod WalkLaws
-pub mod SightLaws
-pub mod RingLaws
-pub mod RingParts
-pub mod AmongLaws
-pub mod StateLaws
-pub mod ListedLaws
-pub mod CallLaws
+pub mod Terms
+pub mod Inner

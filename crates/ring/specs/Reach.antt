@@ -1,4 +1,4 @@
--- What a ring and a shell are, without a walk: the cells that some number of steps to a neighbour reach. Definitions only. Assumes nothing.
+-- What a ring and a shell are, without a walk: the cells that some number of steps to a neighbour reach. Definitions only.
 -- `List·Memᴰ c cells` says that c is a member of cells: it is a place at which cells has c.
 use mathlib.Core.Path.{_≡_}
 use mathlib.Core.List.{List, [], _∷_, List·Memᴰ}

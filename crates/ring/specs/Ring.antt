@@ -1,7 +1,7 @@
 -- "`k_ring`, `k_shell`: breadth first in neighbour order; k = 0 is the centre, unchecked. Cells nearer than k are expanded, so parity and overflow are met there. Rooms are named and
 -- tested as for the search. The centre takes one known and one waiting room; each unseen neighbour needs known room, then waiting room; output room is needed when a cell is listed,
 -- before it is expanded: NoRoom 1, 2, 3." And of the search: "A popped entry's room serves again." The cells that wait are the rest of those at one number of steps, then those found
--- one step further: the one after the other, in the order of first sight, is breadth first. Definitions only. Assumes nothing.
+-- one step further: the one after the other, in the order of first sight, is breadth first. Definitions only.
 use mathlib.Core.Bool.{Bool, true, false, cond, _||_, _&&_}
 use mathlib.Core.List.{List, [], _∷_, _++_}
 use Prim.Native.Nat.{ℕ, zero, suc, _+_, _*_}
@@ -13,16 +13,15 @@ use Rattle.refusal.specs.declared.Refusal.{Refusal}
 use Rattle.refusal.specs.declared.Refusal.the-variants.{NoRoom, BadWorkspace}
 use Rattle.refusal.specs.declared.Outcome.{Outcome}
 use Rattle.refusal.specs.declared.Outcome.the-variants as outcome
-use Rattle.cell.specs.declared.CellAnswer.{CellAnswer}
-use Rattle.cell.specs.declared.CellAnswer.the-variants as cell
 use Rattle.cell.specs.Cell.{sameCell, neighborsOf}
-use Rattle.cell.specs.Bytes.{fromBytesOf}
-use Rattle.layer.specs.Changes.{Changed, changed}
-use Rattle.layer.specs.declared.CountAnswer.{CountAnswer}
-use Rattle.layer.specs.declared.CountAnswer.the-variants as count
-use Rattle.listing.specs.Listing.{roomIn, cellsLaid}
-use Rattle.known.specs.Workspace.{isRoom, zeros}
+use Rattle.cell.specs.Bytes.{fromBytesOf, onCell}
+use Rattle.general.specs.Changed.{Changed, changed}
+use Rattle.refusal.specs.declared.CountAnswer.{CountAnswer}
+use Rattle.refusal.specs.declared.CountAnswer.the-variants as count
+use Rattle.cell_list.specs.Listing.{roomIn, cellsLaid}
+use Rattle.known.specs.Workspace.{isRoom, zeros, knownWidth, WalkRooms}
 use Rattle.ring.specs.declared.Rooms.{Rooms}
+use Rattle.general.specs.Refuse.{refuseUnless}
 
 -- what a walk has seen: the known cells in the order of first sight, those of them that it found for its next step, and the cells that it listed
 pub record Sight : Type 0 where
@@ -30,6 +29,7 @@ pub record Sight : Type 0 where
   pub found : List Cell
   pub listed : List Cell
 
+-- what was seen, by these three lists
 abbrev pub sight : List Cell → List Cell → List Cell → Sight
 sight k f l = record { known = k; found = f; listed = l }
 
@@ -38,12 +38,14 @@ pub data Walk : Type 0 where
   going : Sight → Walk
   stopped : Refusal → Walk
 
+-- on with what was seen, unless the walk was refused
 abbrev pub andThen : Walk → (Sight → Walk) → Walk
 andThen (going s) next = next s
 andThen (stopped r) next = stopped r
 
 -- ---- one neighbour
 
+-- the cell is one of these
 unfoldable pub isAmong : Cell → List Cell → Bool
 isAmong c [] = false
 isAmong c (d ∷ ds) = sameCell c d || isAmong c ds
@@ -57,10 +59,12 @@ abbrev pub note : Rooms → ℕ → Cell → Sight → Walk
 note rooms others c s =
     cond (ltb (length (s .known)) (rooms .known)) (cond (ltb (others + length (s .found)) (rooms .waiting)) (going (noted c s)) (stopped (NoRoom Waiting))) (stopped (NoRoom Known))
 
+-- a neighbour that is known is passed over, any other is noted
 unfoldable pub see : Rooms → ℕ → Cell → Sight → Walk
 unfolding isAmong
 see rooms others c s = cond (isAmong c (s .known)) (going s) (note rooms others c s)
 
+-- one neighbour after the other
 unfoldable pub seeAll : Rooms → ℕ → List Cell → Sight → Walk
 unfolding see
 seeAll rooms others [] s = going s
@@ -73,6 +77,7 @@ abbrev pub expandInto : Rooms → ℕ → Outcome → List Cell → Sight → Wa
 expandInto rooms others (outcome.Refused r) cs s = stopped r
 expandInto rooms others outcome.Answered cs s = seeAll rooms others cs s
 
+-- all neighbours of a cell are seen, in neighbour order
 unfoldable pub expand : Rooms → ℕ → Cell → Sight → Walk
 unfolding neighborsOf seeAll
 expand rooms others c s = expandInto rooms others (neighborsOf c .outcome) (neighborsOf c .cells) s
@@ -106,6 +111,7 @@ listAll rooms (c ∷ cs) s = andThen (list rooms c s) (listAll rooms cs)
 abbrev pub further : Sight → Sight
 further s = sight (s .known) [] (s .listed)
 
+-- k more steps from the cells at hand; the last cells are listed
 unfoldable pub levels : Bool → Rooms → ℕ → List Cell → Sight → Walk
 unfolding level listAll
 levels every rooms zero cs s = listAll rooms cs s
@@ -124,10 +130,11 @@ pub record Ringed : Type 0 where
   pub workspace : List ℕ
   pub output : List ℕ
 
+-- this said, with these bytes in the two buffers
 abbrev pub ringed : CountAnswer → List ℕ → List ℕ → Ringed
 ringed a w l = record { said = a; workspace = w; output = l }
 
--- the answer and the output
+-- the answer and the output of a walk
 abbrev pub listedBy : Walk → List ℕ → Changed CountAnswer
 listedBy (stopped r) l = changed (count.Refused r) l
 listedBy (going s) l = changed (count.Cells (length (s .listed))) (cellsLaid (s .listed) l)
@@ -138,17 +145,15 @@ wiped a w = ringed (a .said) (zeros w) (a .bytes)
 
 -- "room for known cells and waiting entries, each 1..=65,536": 44 bytes for a known cell, none for a waiting entry, which is a known cell's
 unfoldable pub hasRooms : ℕ → ℕ → List ℕ → Bool
-hasRooms known waiting w = isRoom known && (isRoom waiting && leb (44 * known) (length w))
+hasRooms known waiting w = isRoom known && (isRoom waiting && leb (knownWidth * known) (length w))
 
+-- the rooms that the caller names, and that of the output
 abbrev pub roomsOf : ℕ → ℕ → List ℕ → Rooms
 roomsOf known waiting l = record { known = known; waiting = waiting; output = roomIn l }
 
-abbrev pub ringFrom : CellAnswer → Bool → ℕ → Rooms → List ℕ → List ℕ → Ringed
-ringFrom (cell.Refused r) every k rooms w l = wiped (changed (count.Refused r) l) w
-ringFrom (cell.Is c) every k rooms w l = wiped (listedBy (walkOf every rooms k c) l) w
-
 -- BadWorkspace first, which leaves the workspace untouched, then BadList
-unfoldable pub ringIn : Bool → List ℕ → ℕ → ℕ → ℕ → List ℕ → List ℕ → Ringed
+unfoldable pub ringIn : Bool → List ℕ → ℕ → WalkRooms → List ℕ → List ℕ → Ringed
 unfolding hasRooms fromBytesOf walkOf cellsLaid
-ringIn every center k known waiting w l =
-    cond (hasRooms known waiting w) (ringFrom (fromBytesOf center) every k (roomsOf known waiting l) w l) (ringed (count.Refused BadWorkspace) w l)
+ringIn every center k rooms w l =
+    refuseUnless (hasRooms (rooms .known) (rooms .waiting) w) (ringed (count.Refused BadWorkspace) w l)
+    (onCell (λ r. wiped (changed (count.Refused r) l) w) (λ c. wiped (listedBy (walkOf every (roomsOf (rooms .known) (rooms .waiting) l) k c) l) w) center)

@@ -1,19 +1,20 @@
-// Rings and shells around a cell, breadth first: the cells at one number of steps after the other. The known cells stand in the workspace in the order of first sight, and that is
-// also the order in which they wait; nothing is written to the output before all is found.
+// Rings and shells around a cell, breadth first: the cells at one number of steps after the other. The known cells stand in the workspace in the
+// order of first sight, and that is also the order in which they wait; nothing is written to the output before all is found.
 ghost use mathlib.Core.Path.{_≡_};
 ghost use mathlib.Core.Bool.{true, false};
-ghost use Prim.Native.Nat.{_-_, _≤_};
+ghost use Prim.Native.Nat.{_≤_};
 ghost use lib.ListN.{length};
 ghost use Rattle.cell.specs.Bytes.{fromBytesOf};
-ghost use Rattle.layer.specs.Changes.{changed};
-ghost use Rattle.known.specs.Known.{Roomy, Known};
-ghost use Rattle.listing.specs.Listing.{roomIn, cellsLaid};
+ghost use Rattle.general.specs.Changed.{changed};
+ghost use Rattle.known.specs.Inner.Known.{Roomy, Known};
+ghost use Rattle.cell_list.specs.Listing.{roomIn, cellsLaid};
 ghost use Rattle.ring.specs.Ring.{see, seeAll, expand, level, listAll, levels, walkOf, listedBy, hasRooms, ringed, ringIn};
-ghost use Rattle.ring.specs.State.{cellsBetween, sightIn, Shows, Sees, Lists, Reaches, walkedFrom};
+ghost use Rattle.ring.specs.Inner.State.{cellsBetween, sightIn, Shows, Sees, Lists, Reaches, Listable, Finishable, walkedFrom};
+ghost use Rattle.known.specs.Workspace.{inRooms};
 use cell::CellAnswer;
 use known::Found;
-use layer::CountAnswer;
 use refusal::Cell;
+use refusal::CountAnswer;
 use refusal::Outcome;
 use refusal::Refusal;
 use refusal::Room;
@@ -110,7 +111,11 @@ fn expand(workspace: &mut [u8], rooms: Rooms, next: usize, count: usize, c: Cell
 fn level(workspace: &mut [u8], every: bool, rooms: Rooms, from: usize, to: usize) -> Walked
     requires { ⌜ Known (now workspace) (rooms .known) to ⌝ }
     requires { ⌜ from ≤ to ⌝ }
-    ensures { λ r. ⌜ Shows every (now (workspace .entry)) (now (workspace .exit)) (rooms .known) to to to r (level every rooms (cellsBetween (now (workspace .entry)) (rooms .known) from to) (sightIn every (now (workspace .entry)) (rooms .known) to to from)) ⌝ }
+    ensures { λ r.
+        let w = now (workspace .entry) in
+        let cells = cellsBetween w (rooms .known) from to in
+        let s = sightIn every w (rooms .known) to to from in
+        ⌜ Shows every w (now (workspace .exit)) (rooms .known) to to to r (level every rooms cells s) ⌝ }
     ensures { λ r. ⌜ Lists every rooms from to r ⌝ }
 {
     let mut count = to;
@@ -136,7 +141,11 @@ fn level(workspace: &mut [u8], every: bool, rooms: Rooms, from: usize, to: usize
 // Level after level, until the last cells are found or a level is empty.
 fn levels(workspace: &mut [u8], every: bool, rooms: Rooms, k: u64) -> Reached
     requires { ⌜ Known (now workspace) (rooms .known) 1 ⌝ }
-    ensures { λ r. ⌜ Reaches every (now (workspace .entry)) (now (workspace .exit)) rooms r (levels every rooms k (cellsBetween (now (workspace .entry)) (rooms .known) 0 1) (sightIn every (now (workspace .entry)) (rooms .known) 1 1 0)) ⌝ }
+    ensures { λ r.
+        let w = now (workspace .entry) in
+        let cells = cellsBetween w (rooms .known) 0 1 in
+        let s = sightIn every w (rooms .known) 1 1 0 in
+        ⌜ Reaches every w (now (workspace .exit)) rooms r (levels every rooms k cells s) ⌝ }
 {
     let mut from = 0;
     let mut to = 1;
@@ -159,26 +168,25 @@ fn levels(workspace: &mut [u8], every: bool, rooms: Rooms, k: u64) -> Reached
 
 // The cells of the records from one up to another at the front of a buffer that holds them.
 fn write(workspace: &[u8], room: usize, from: usize, to: usize, output: &mut [u8])
-    requires { ⌜ Known (now workspace) room to ⌝ }
-    requires { ⌜ from ≤ to ⌝ }
-    requires { ⌜ to - from ≤ roomIn (now output) ⌝ }
+    requires { ⌜ Listable (now workspace) room from to (now output) ⌝ }
     ensures { λ _. ⌜ now (output .exit) ≡ cellsLaid (cellsBetween (now (workspace .entry)) room from to) (now (output .entry)) ⌝ }
 {
     let size = to - from;
     let mut i = 0;
     while i < size {
-        listing::put(output, i, known::cell_at(workspace, room, from + i));
+        cell_list::put(output, i, known::cell_at(workspace, room, from + i));
         i += 1;
     }
 }
 
 // The answer of a walk that has come to its last cells: a ring has listed all before them.
 fn finish(workspace: &[u8], every: bool, rooms: Rooms, last: Span, output: &mut [u8]) -> CountAnswer
-    requires { ⌜ Known (now workspace) (rooms .known) (last .to) ⌝ }
-    requires { ⌜ last .from ≤ last .to ⌝ }
-    requires { ⌜ (every ≡ true → last .from ≤ rooms .output) ⌝ }
-    requires { ⌜ rooms .output ≡ roomIn (now output) ⌝ }
-    ensures { λ r. ⌜ changed r (now (output .exit)) ≡ listedBy (listAll rooms (cellsBetween (now (workspace .entry)) (rooms .known) (last .from) (last .to)) (sightIn every (now (workspace .entry)) (rooms .known) (last .to) (last .to) (last .from))) (now (output .entry)) ⌝ }
+    requires { ⌜ Finishable every (now workspace) rooms last (now output) ⌝ }
+    ensures { λ r.
+        let w = now (workspace .entry) in
+        let cells = cellsBetween w (rooms .known) (last .from) (last .to) in
+        let s = sightIn every w (rooms .known) (last .to) (last .to) (last .from) in
+        ⌜ changed r (now (output .exit)) ≡ listedBy (listAll rooms cells s) (now (output .entry)) ⌝ }
 {
     let first = if every { 0 } else { last.from };
     let count = last.to - first;
@@ -237,7 +245,7 @@ fn has_rooms(known: usize, waiting: usize, workspace: &[u8]) -> bool
 {
     if known::is_room(known) {
         if known::is_room(waiting) {
-            return 44 * known <= workspace.len();
+            return known::KNOWN_WIDTH * known <= workspace.len();
         }
     }
     false
@@ -253,7 +261,9 @@ fn around(
     workspace: &mut [u8],
     output: &mut [u8],
 ) -> CountAnswer
-    ensures { λ r. ⌜ ringed r (now (workspace .exit)) (now (output .exit)) ≡ ringIn every (now (center .entry)) k known waiting (now (workspace .entry)) (now (output .entry)) ⌝ }
+    ensures { λ r.
+        ⌜ ringed r (now (workspace .exit)) (now (output .exit))
+        ≡ ringIn every (now (center .entry)) k (inRooms known waiting) (now (workspace .entry)) (now (output .entry)) ⌝ }
 {
     if !has_rooms(known, waiting, workspace) {
         return CountAnswer::Refused(Refusal::BadWorkspace);
@@ -261,7 +271,7 @@ fn around(
     let rooms = Rooms {
         known,
         waiting,
-        output: listing::room(output),
+        output: cell_list::room(output),
     };
     let answer = walk_from(center, every, rooms, k, workspace, output);
     known::wipe(workspace);
@@ -277,7 +287,9 @@ pub fn k_ring(
     workspace: &mut [u8],
     output: &mut [u8],
 ) -> CountAnswer
-    ensures { λ r. ⌜ ringed r (now (workspace .exit)) (now (output .exit)) ≡ ringIn true (now (center .entry)) k known waiting (now (workspace .entry)) (now (output .entry)) ⌝ }
+    ensures { λ r.
+        ⌜ ringed r (now (workspace .exit)) (now (output .exit))
+        ≡ ringIn true (now (center .entry)) k (inRooms known waiting) (now (workspace .entry)) (now (output .entry)) ⌝ }
 {
     around(center, true, k, known, waiting, workspace, output)
 }
@@ -291,7 +303,9 @@ pub fn k_shell(
     workspace: &mut [u8],
     output: &mut [u8],
 ) -> CountAnswer
-    ensures { λ r. ⌜ ringed r (now (workspace .exit)) (now (output .exit)) ≡ ringIn false (now (center .entry)) k known waiting (now (workspace .entry)) (now (output .entry)) ⌝ }
+    ensures { λ r.
+        ⌜ ringed r (now (workspace .exit)) (now (output .exit))
+        ≡ ringIn false (now (center .entry)) k (inRooms known waiting) (now (workspace .entry)) (now (output .entry)) ⌝ }
 {
     around(center, false, k, known, waiting, workspace, output)
 }

@@ -1,3 +1,4 @@
+pub mod Theorems
 mod Raising
 mod Passing
 mod Ranking

@@ -1,2 +1,3 @@
 pub mod Rollup
-pub mod Runs
+pub mod Inner
+pub mod Terms

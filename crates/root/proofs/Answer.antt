@@ -1,4 +1,4 @@
--- The answer of `whole_root`, from the root at 54 digits. Assumes nothing.
+-- The answer of `whole_root`, from the root at 54 digits.
 use mathlib.Core.Path.{_≡_, sym, subst}
 use Prim.Native.Nat.{ℕ, suc, _+_, _*_, _/_, _%_, _^_, _≤_, _<_}
 use native.Mathlib.Nat.{mod-eq-of-lt}
@@ -7,7 +7,7 @@ use lib.Count.{leadingZeros, leading-top}
 use mathlib.Core.Bool.{false}
 use lib.Ieee.{binary64, round}
 use Rattle.root.specs.Root.{rootWhole}
-use Rattle.root.specs.Isqrt.{IsRoot}
+use Rattle.root.specs.Inner.Isqrt.{IsRoot}
 use Rattle.root.proofs.Scaled.{root-is}
 use Rattle.root.proofs.Steps.{moved, scaled-of, moved-square, power-of, q-least, q-most}
 

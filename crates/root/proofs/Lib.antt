@@ -1,3 +1,11 @@
+pub mod Theorems
+pub mod Isqrt
+pub mod Answers
+pub mod Nearest
+pub mod Number
+pub mod Bounds
+pub mod Significand
+pub mod Halfway
 pub mod Scaled
 pub mod Pattern
 pub mod Whole

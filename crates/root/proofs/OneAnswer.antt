@@ -1,13 +1,10 @@
--- Two answers that meet a public function's contract agree. Assumes nothing.
+-- Two answers that meet a public function's contract agree.
 use mathlib.Core.Path.{sym, _∙_}
-use Rattle.refusal.specs.OneAnswer.{OneAnswer}
-use Rattle.root.proofs.square_root.Kinds as square-root-kinds
-use Rattle.root.proofs.square_root.Reads as square-root
-use Rattle.root.proofs.square_root_bits.Kinds as square-root-bits-kinds
-use Rattle.root.proofs.square_root_bits.Reads as square-root-bits
+use Rattle.general.specs.OneAnswer.{OneAnswer}
+use Rattle.root.proofs as here
 
-pub square-root-one : OneAnswer 0 square-root-kinds.ps square-root-kinds.r square-root.Post
+pub square-root-one : OneAnswer 0 here.square_root.Kinds.ps here.square_root.Kinds.r here.square_root.Reads.Post
 square-root-one κs a z z′ e e′ p q = p ∙ sym q
 
-pub square-root-bits-one : OneAnswer 0 square-root-bits-kinds.ps square-root-bits-kinds.r square-root-bits.Post
+pub square-root-bits-one : OneAnswer 0 here.square_root_bits.Kinds.ps here.square_root_bits.Kinds.r here.square_root_bits.Reads.Post
 square-root-bits-one κs a z z′ e e′ p q = p ∙ sym q

@@ -1,4 +1,4 @@
--- The pattern of q * 2 ^ j smallest numbers, q of 53 digits, is j * 2 ^ 52 + q, since the leading digit of q adds one to the exponent's field. So `joined` is m / 2 ^ (21 + s). Assumes nothing.
+-- The pattern of q * 2 ^ j smallest numbers, q of 53 digits, is j * 2 ^ 52 + q, since the leading digit of q adds one to the exponent's field. So `joined` is m / 2 ^ (21 + s).
 use mathlib.Core.Path.{_≡_, refl, sym, ap, _∙_}
 use mathlib.Core.Logic.{_⊎_, inl, inr}
 use mathlib.Core.Bool.{true, false, true≢false}
@@ -14,7 +14,7 @@ use lib.Ieee.Exact.{HasValue, round-exact}
 use lib.Ieee.Digits.{size-lt, size-le}
 use lib.Ieee.Scale.{round-same}
 use lib.Ieee.Bits.{ofBits-toBits, nanBits-above}
-use Rattle.root.specs.Isqrt.{exponent-lt}
+use Rattle.root.proofs.Isqrt.{exponent-lt}
 
 module _ (q j : ℕ) (least : 4503599627370496 ≤ q) (most : q < 9007199254740992) where
   -- how many digits are below the 53 that are kept

@@ -1,4 +1,4 @@
--- The ends of the range and what has no root, by computation. The known point of the scope document stands in one table with the others, in the top crate. Assumes nothing.
+-- The ends of the range and what has no root, by computation. The known point of the scope document stands in one table with the others, in the top crate.
 use mathlib.Core.Path.{_≡_, refl}
 use lib.Ieee.{ofBits, toBits}
 use Rattle.refusal.specs.declared.Refusal.the-variants.{OutOfRange}

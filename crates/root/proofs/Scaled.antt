@@ -1,4 +1,4 @@
--- The root of n moved up by 2 j digits, at 54 digits, is what `rootWhole n` is made of. Assumes nothing.
+-- The root of n moved up by 2 j digits, at 54 digits, is what `rootWhole n` is made of.
 use mathlib.Core.Path.{_≡_, refl, sym, ap, _∙_}
 use mathlib.Core.Bool.{false}
 use Prim.Native.Nat.{ℕ, zero, suc, _+_, _-_, _*_, _/_, _^_, _≤_, _<_}
@@ -9,22 +9,23 @@ use lib.Dec.{lit≤}
 use lib.Pow.{pow-add}
 use lib.Ieee.{size, binary64, round}
 use lib.Ieee.Digits.{size-lt, size-le, size-reaches}
-use Rattle.root.specs.Root.{isqrt, shift, signif, rootWhole}
-use Rattle.root.specs.Isqrt.{IsRoot, root-le, isqrt-is, isqrt-unique, four-pow, exponent-lt}
+use Rattle.root.specs.Root.{integerRoot, shift, significand, rootWhole}
+use Rattle.root.specs.Inner.Isqrt.{IsRoot}
+use Rattle.root.proofs.Isqrt.{root-le, isqrt-is, isqrt-unique, four-pow, exponent-lt}
 
 -- d is 2 ^ j, q is the root of n * d * d, of at most 54 digits, and the root of n is q's leading digits
 pub record Scaled (n q d : ℕ) : Type 0 where
   pub j : ℕ
   pub power : d ≡ 2 ^ j
   pub root : IsRoot (n * (d * d)) q
-  pub above : isqrt n * d ≤ q
-  pub below : q < suc (isqrt n) * d
-  pub positive : 1 ≤ isqrt n
+  pub above : integerRoot n * d ≤ q
+  pub below : q < suc (integerRoot n) * d
+  pub positive : 1 ≤ integerRoot n
   pub top : q < 18014398509481984
 
 module _ {n q d : ℕ} (bound : n < 18446744073709551616) (t : Scaled n q d) (large : 9007199254740992 ≤ q) where
   abbrev p : ℕ
-  p = isqrt n
+  p = integerRoot n
 
   z-pos : 0 < size p
   z-pos = exponent-lt 0 (size p) p (t .positive) (size-lt p)
@@ -54,11 +55,11 @@ module _ {n q d : ℕ} (bound : n < 18446744073709551616) (t : Scaled n q d) (la
       last : 0 < size p → 53 < size p + t .j → size p - 1 + t .j < 54 → 54 - size p ≡ t .j
       last a b c = omega arith
 
-  signif-is : signif n ≡ (q + 1) / 2
-  unfolding signif
+  signif-is : significand n ≡ (q + 1) / 2
+  unfolding significand
   signif-is =
-      ap (λ (x : ℕ). (isqrt (n * 4 ^ x) + 1) / 2) shift-is
-      ∙ ap (λ (x : ℕ). (isqrt (n * x) + 1) / 2) (sym (four-pow (t .j)) ∙ ap (λ (x : ℕ). x * x) (sym (t .power)))
+      ap (λ (x : ℕ). (integerRoot (n * 4 ^ x) + 1) / 2) shift-is
+      ∙ ap (λ (x : ℕ). (integerRoot (n * x) + 1) / 2) (sym (four-pow (t .j)) ∙ ap (λ (x : ℕ). x * x) (sym (t .power)))
       ∙ ap (λ (x : ℕ). (x + 1) / 2) (isqrt-unique (n * (d * d)) q (t .root))
 
   j-pos : 0 < t .j

@@ -1,4 +1,4 @@
--- The steps of `floor_root` and of `whole_root` as facts on numbers. Assumes nothing.
+-- The steps of `floor_root` and of `whole_root` as facts on numbers.
 use mathlib.Core.Path.{_≡_, sym, ap, _∙_, subst}
 use Prim.Native.Nat.{ℕ, zero, suc, _+_, _-_, _*_, _/_, _^_, _≤_, _<_}
 use native.Mathlib.Nat.{add-mul, mul-add, mul-assoc, mul-comm, mul-mul-mul-comm, mul-le-mul, mul-le-mul-right, mul-lt-mul-of-pos-right, mul-pos, le-of-mul-le-mul-right, le-trans, le-of-eq, lt-of-lt-of-le, lt-of-le-of-lt, div-add-mod', mod-lt, div-mul-le-self}
@@ -7,8 +7,9 @@ use native.Mathlib.Omega.{arith}
 use lib.Dec.{lit≤}
 use lib.Pow.{pow-add, pow-pos, pow-mono, shl-lt}
 use lib.Count.{leadingZeros, leading-top}
-use Rattle.root.specs.Root.{isqrt}
-use Rattle.root.specs.Isqrt.{IsRoot, sq-suc, root-le, isqrt-is, sq-mul, sq-lt-of}
+use Rattle.root.specs.Root.{integerRoot}
+use Rattle.root.specs.Inner.Isqrt.{IsRoot}
+use Rattle.root.proofs.Isqrt.{sq-suc, root-le, isqrt-is, sq-mul, sq-lt-of}
 use Rattle.root.proofs.Scaled.{Scaled}
 
 -- ---- the guess mended
@@ -115,7 +116,7 @@ module _ (n q d : ℕ) (j : ℕ) (power : d ≡ 2 ^ j) (first : 1 ≤ n) (r : Is
 
   pub scaled-of : Scaled n q d
   scaled-of =
-      let p = isqrt n in
+      let p = integerRoot n in
       let i = isqrt-is n in
       record {
         j = j;

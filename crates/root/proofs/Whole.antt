@@ -1,4 +1,4 @@
--- What the tests of `square_root` say of x, and what `rootOf` is there. `one`, `big` and `nought` are the constants 1, 2 ^ 64 and +0. Assumes nothing.
+-- What the tests of `square_root` say of x, and what `rootOf` is there. `one`, `big` and `nought` are the constants 1, 2 ^ 64 and +0.
 use mathlib.Core.Path.{_≡_, refl, sym, ap, _∙_, subst}
 use Prim.Native.Nat.{ℕ, suc, _*_, _/_, _%_, _^_, _≤_, _<_}
 use native.Mathlib.Nat.{mul-one, one-mul, zero-mul, mod-one, mod-eq-of-lt, div-add-mod', le-of-eq, lt-of-le-of-lt, le-of-lt, not-le-of-lt, le-div-iff-mul-le, div-lt-iff-lt-mul, mul-le-mul-right, div-le-self, mul-right-comm, le-antisymm, le-of-mul-le-mul-right}
@@ -13,11 +13,11 @@ use lib.Ieee.Back.{whole-unique, round-whole}
 use lib.Ieee.Bits.{is-true}
 use borrow.Author.Tests.{eqb-true, eq-eqb}
 use Rattle.refusal.specs.declared.Refusal.the-variants.{OutOfRange}
-use Rattle.float.specs.Laws as laws
-use Rattle.float.specs.Laws.{so, at-most, level-or-below, digits-of, cut-is}
+use Rattle.float.proofs.Laws as laws
+use Rattle.float.proofs.Laws.{so, at-most, level-or-below, digits-of, cut-is}
 use Rattle.root.specs.declared.Root.the-variants.{Of, Refused}
 use Rattle.root.specs.Root.{rootOf, rootWhole}
-use Rattle.root.specs.Answers.{in-range, out-of-range}
+use Rattle.root.proofs.Answers.{in-range, out-of-range}
 
 abbrev pub one : Float
 one = fin false 1 (pos 0)

@@ -1,8 +1,3 @@
 pub mod Root
-pub mod Isqrt
-pub mod Answers
-pub mod Nearest
-pub mod Number
-pub mod Bounds
-pub mod Significand
-pub mod Halfway
+pub mod Terms
+pub mod Inner

@@ -1,5 +1,5 @@
 -- Module 1 of the scope document, "Square root (new, f64). Correctly rounded, to nearest even, for +0.0 and whole-valued f64 from 1 to 2^64; anything else is OutOfRange.
--- Meaning over whole numbers." What `square_root` answers, as definitions that compute with whole numbers only. Definitions only. Assumes nothing.
+-- Meaning over whole numbers." What `square_root` answers, as definitions that compute with whole numbers only. Definitions only.
 use Prim.Native.Nat.{ℕ, zero, suc, _+_, _-_, _*_, _/_, _%_, _^_}
 use mathlib.Core.Bool.{true, false, cond, _&&_}
 use lib.Dec.{leb, eqb}
@@ -15,24 +15,24 @@ rootDigits zero n = 0
 rootDigits (suc k) n = let s = 2 * rootDigits k (n / 4) in cond (leb (suc s * suc s) n) (suc s) s
 
 -- The largest s with s * s ≤ n.
-unfoldable pub isqrt : ℕ → ℕ
+unfoldable pub integerRoot : ℕ → ℕ
 unfolding rootDigits size
-isqrt n = rootDigits (size n) n
+integerRoot n = rootDigits (size n) n
 
 -- How many binary digits the root of n is moved up by, so that its whole part has 54 of them: one more than an f64 keeps.
 unfoldable pub shift : ℕ → ℕ
-unfolding isqrt size
-shift n = 54 - size (isqrt n)
+unfolding integerRoot size
+shift n = 54 - size (integerRoot n)
 
 -- The root's significand: the root at 54 digits, to the nearer at 53. No root is a tie.
-unfoldable pub signif : ℕ → ℕ
-unfolding isqrt shift
-signif n = (isqrt (n * 4 ^ shift n) + 1) / 2
+unfoldable pub significand : ℕ → ℕ
+unfolding integerRoot shift
+significand n = (integerRoot (n * 4 ^ shift n) + 1) / 2
 
--- The f64 nearest to the root of the whole number n: `signif n` moved back down. `round` changes nothing here.
+-- The f64 nearest to the root of the whole number n: `significand n` moved back down. `round` changes nothing here.
 unfoldable pub rootWhole : ℕ → Float
-unfolding signif shift round
-rootWhole n = round binary64 false (signif n) (2 ^ (shift n - 1))
+unfolding significand shift round
+rootWhole n = round binary64 false (significand n) (2 ^ (shift n - 1))
 
 -- The root of +0 and of each whole number from 1 to 2 ^ 64; anything else is out of range. A finite value m * 2 ^ e is the fraction m * up e / down e.
 unfoldable pub rootOf : Float → Root

@@ -4,7 +4,7 @@ ghost use mathlib.Core.Path.{_≡_};
 ghost use mathlib.Core.Bool.{false};
 ghost use Prim.Native.Nat.{_≤_, _*_, _^_};
 ghost use lib.Ieee.{binary64, round};
-ghost use Rattle.root.specs.Isqrt.{IsRoot};
+ghost use Rattle.root.specs.Inner.Isqrt.{IsRoot};
 ghost use Rattle.root.specs.Root.{rootWhole, rootOf, rootBitsOf};
 use refusal::Refusal;
 

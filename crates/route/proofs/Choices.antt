@@ -1,5 +1,5 @@
 -- What the number of a choice says, in words of demand 3: 1 exactly where the sent list is accepted, 2 exactly where the homing list is and the sent one is not, 0 exactly where
--- neither is. Of any bytes. Assumes nothing.
+-- neither is. Of any bytes.
 use mathlib.Core.Path.{_≡_, refl}
 use mathlib.Core.Logic.{_↔_}
 use mathlib.Core.Bool.{Bool, true, false, cond}
@@ -9,10 +9,12 @@ use native.Mathlib.Omega.{arith}
 use borrow.Author.Tests.{eqb-true, eqb-false}
 use lib.Dec.{eqb}
 use Rattle.words.specs.Word.{Bytes}
-use Rattle.route.specs.Route.{verdictOf, choiceOf}
-use Rattle.route.specs.Choice.{choiceBetween, sent-chosen, homing-chosen, neither-chosen}
+use Rattle.route.specs.Route.{verdictOf, choiceOf, claim}
+use Rattle.route.specs.Choice.{choiceBetween}
+use Rattle.route.proofs.ChoiceLaws.{sent-chosen, homing-chosen, neither-chosen}
 use Rattle.route.specs.Accepted.{Demand3}
-use Rattle.route.specs.Demand.{accepted-exactly}
+use Rattle.route.proofs.DemandLaws.{accepted-exactly}
+use Rattle.table.specs.Records.{layer}
 
 -- ---- by the two verdicts
 
@@ -52,32 +54,32 @@ module _ (sent homing : ℕ) where
 module _ (sent homing start goal : List ℕ) (cost : ℕ) (departure home : List ℕ) (price : ℕ) (flags : List ℕ) (n rule : ℕ) (in-sent : Bytes sent) (in-start : Bytes start) (in-goal : Bytes goal) where
   -- each list is judged with its own ends and cost
   abbrev sent-verdict : ℕ
-  sent-verdict = verdictOf sent start goal cost flags n rule
+  sent-verdict = verdictOf (claim sent start goal cost) (layer flags n) rule
 
   abbrev homing-verdict : ℕ
-  homing-verdict = verdictOf homing departure home price flags n rule
+  homing-verdict = verdictOf (claim homing departure home price) (layer flags n) rule
 
-  sent-is : sent-verdict ≡ 0 ↔ Demand3 sent start goal cost flags n rule
+  sent-is : sent-verdict ≡ 0 ↔ Demand3 (claim sent start goal cost) (layer flags n) rule
   sent-is = accepted-exactly sent start goal cost flags n rule in-sent in-start in-goal
 
   -- 1: the sent list is accepted
-  pub sent-exactly : choiceBetween sent homing start goal cost departure home price flags n rule ≡ 1 ↔ Demand3 sent start goal cost flags n rule
+  pub sent-exactly : choiceBetween (claim sent start goal cost) (claim homing departure home price) (layer flags n) rule ≡ 1 ↔ Demand3 (claim sent start goal cost) (layer flags n) rule
   sent-exactly = (λ e. sent-is .0 (from-one sent-verdict homing-verdict (from-verdicts sent-verdict homing-verdict) e), λ d. sent-chosen sent-verdict homing-verdict (sent-is .1 d))
 
   module _ (in-homing : Bytes homing) (in-departure : Bytes departure) (in-home : Bytes home) where
-    homing-is : homing-verdict ≡ 0 ↔ Demand3 homing departure home price flags n rule
+    homing-is : homing-verdict ≡ 0 ↔ Demand3 (claim homing departure home price) (layer flags n) rule
     homing-is = accepted-exactly homing departure home price flags n rule in-homing in-departure in-home
 
     -- 2: the sent list is not accepted, and the homing list is
-    pub homing-exactly : choiceBetween sent homing start goal cost departure home price flags n rule ≡ 2 ↔ (Demand3 sent start goal cost flags n rule → ⊥) × Demand3 homing departure home price flags n rule
+    pub homing-exactly : choiceBetween (claim sent start goal cost) (claim homing departure home price) (layer flags n) rule ≡ 2 ↔ (Demand3 (claim sent start goal cost) (layer flags n) rule → ⊥) × Demand3 (claim homing departure home price) (layer flags n) rule
     homing-exactly = (
       λ e. let r = from-two sent-verdict homing-verdict (from-verdicts sent-verdict homing-verdict) e in (λ d. r .0 (sent-is .1 d), homing-is .0 (r .1)),
       λ d. homing-chosen sent-verdict homing-verdict (λ e. d .0 (sent-is .0 e)) (homing-is .1 (d .1)),
     )
 
     -- 0: neither is
-    pub neither-exactly : choiceBetween sent homing start goal cost departure home price flags n rule ≡ 0
-        ↔ (Demand3 sent start goal cost flags n rule → ⊥) × (Demand3 homing departure home price flags n rule → ⊥)
+    pub neither-exactly : choiceBetween (claim sent start goal cost) (claim homing departure home price) (layer flags n) rule ≡ 0
+        ↔ (Demand3 (claim sent start goal cost) (layer flags n) rule → ⊥) × (Demand3 (claim homing departure home price) (layer flags n) rule → ⊥)
     neither-exactly = (
       λ e. let r = from-nought sent-verdict homing-verdict (from-verdicts sent-verdict homing-verdict) e in (λ d. r .0 (sent-is .1 d), λ d. r .1 (homing-is .1 d)),
       λ d. neither-chosen sent-verdict homing-verdict (λ e. d .0 (sent-is .0 e)) (λ e. d .1 (homing-is .0 e)),

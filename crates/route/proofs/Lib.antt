@@ -1,3 +1,10 @@
+pub mod Theorems
+pub mod ChoiceLaws
+pub mod Near
+pub mod StepLaws
+pub mod Walks
+pub mod AcceptedLaws
+pub mod DemandLaws
 mod Squares
 mod Shut
 mod Parities

@@ -1,4 +1,4 @@
--- The parity of a coordinate is its lowest bit, whatever its sign. Assumes nothing.
+-- The parity of a coordinate is its lowest bit, whatever its sign.
 use mathlib.Core.Path.{_≡_, refl, ap, ap₂, _∙_}
 use mathlib.Core.Bool.{Bool, true, false, Bool·beq}
 use Prim.Native.Nat.{ℕ, zero, suc, _-_, _%_, _<_}

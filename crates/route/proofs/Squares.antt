@@ -1,4 +1,4 @@
--- Squares of short differences, as 64 bits reckon them. Assumes nothing.
+-- Squares of short differences, as 64 bits reckon them.
 use mathlib.Core.Path.{_≡_, refl}
 use mathlib.Core.Bool.{true, false}
 use Prim.Native.Nat.{ℕ, zero, suc, _≤_}
@@ -6,7 +6,7 @@ use native.Mathlib.Omega.{arith}
 use borrow.Author.Tests.{leb-true, leb-false}
 use lib.IntN.{ℤ, pos, negsuc, natAbs, _*ℤ_}
 use lib.Signed.{leZ}
-use Rattle.route.specs.Near.{shortSquare}
+use Rattle.route.specs.Inner.Near.{shortSquare}
 
 pub at-most-five : (n : ℕ) → shortSquare n ≤ 5
 at-most-five zero = omega arith

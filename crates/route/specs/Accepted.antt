@@ -1,4 +1,4 @@
--- What an accepted route is, in words of the domain and apart from the checker's own definition: demand 3, of cells and of the bytes that a call is handed. Definitions only. Assumes nothing.
+-- What an accepted route is, in words of the domain and apart from the checker's own definition: demand 3, of cells and of the bytes that a call is handed. Definitions only.
 use mathlib.Core.Path.{_≡_}
 use mathlib.Core.Bool.{true, false}
 use mathlib.Core.List.{List, [], _∷_, List·Memᴰ}
@@ -11,9 +11,10 @@ use Rattle.lattice.specs.Lattice.{isLatticePoint, neighborPlaces}
 use Rattle.distance.specs.Distance.{distanceOf}
 use Rattle.distance.specs.declared.DistanceAnswer.the-variants.{Is}
 use Rattle.cell.specs.Cell.{frameOf, resolutionOf, coordOf, isPlain}
-use Rattle.cell.specs.Bytes.{cellAt}
+use Rattle.cell.specs.Bytes.{cellAt, cellWidth}
 use Rattle.cell.specs.Lists.{cellsOf}
-use Rattle.layer.specs.Layer.{Row, held, heldOf, rowsOf, isSound}
+use Rattle.table.specs.Records.{Row, held, heldOf, rowsOf, isSound, flagWidth, Layer}
+use Rattle.route.specs.Route.{Claim}
 
 -- a step goes from a cell of one parity to a plain cell of the same frame and resolution that stands at one of the 14 places around it
 pub record Step (a b : Cell) : Type 0 where
@@ -43,11 +44,11 @@ pub record Accepted (avoiding : Type 0) (rows : List Row) (start goal : Cell) (c
   pub leads : Leads avoiding rows start (fin false 0 (pos 0)) later goal total
   pub claimed : toBits binary64 total ≡ cost
 
--- demand 3 of bytes: whole cells from one start to one goal, a sound layer of n records, a rule that there is, and an accepted route in that layer
-pub record Demand3 (route start goal : List ℕ) (cost : ℕ) (flags : List ℕ) (n rule : ℕ) : Type 0 where
-  pub whole-cells : length route % 16 ≡ 0
-  pub one-start : length start ≡ 16
-  pub one-goal : length goal ≡ 16
-  pub sound : isSound 20 flags n ≡ true
+-- demand 3 of bytes: whole cells from one start to one goal, a sound layer, a rule that there is, and an accepted route in that layer
+pub record Demand3 (c : Claim) (flags : Layer) (rule : ℕ) : Type 0 where
+  pub whole-cells : length (c .cells) % cellWidth ≡ 0
+  pub one-start : length (c .start) ≡ cellWidth
+  pub one-goal : length (c .goal) ≡ cellWidth
+  pub sound : isSound flagWidth (flags .table) (flags .count) ≡ true
   pub free-or-avoiding : rule < 2
-  pub accepted : Accepted (rule ≡ 1) (rowsOf 20 flags n) (cellAt start 0) (cellAt goal 0) cost (cellsOf route)
+  pub accepted : Accepted (rule ≡ 1) (rowsOf flagWidth (flags .table) (flags .count)) (cellAt (c .start) 0) (cellAt (c .goal) 0) (c .cost) (cellsOf (c .cells))

@@ -5,15 +5,16 @@ ghost use Prim.Native.Nat.{_≤_};
 ghost use lib.IntN.{natAbs, _-ℤ_};
 ghost use lib.ListN.{length};
 ghost use Rattle.cell.specs.Lists.{isList, cellsOf};
-ghost use Rattle.layer.specs.Layer.{rowsOf, isSound};
-ghost use Rattle.route.specs.Near.{shortSquare, isNear};
-ghost use Rattle.route.specs.Route.{isStep, costBetween, isShut, arrived, judgeWalk, judgeCells, areLists, verdictOf};
+ghost use Rattle.table.specs.Records.{rowsOf, isSound, flagWidth, layer};
+ghost use Rattle.route.specs.Inner.Near.{shortSquare, isNear};
+ghost use Rattle.route.specs.Route.{isStep, costBetween, isShut, arrived, judgeWalk, judgeCells, areLists, verdictOf, claim};
 ghost use Rattle.route.specs.Choice.{choiceBetween, Chosen};
-ghost use Rattle.route.specs.Walks.{walkOf};
-use layer::Place;
+ghost use Rattle.route.specs.Inner.Walks.{walkOf};
+ghost use Rattle.cell.specs.Bytes.{cellWidth};
 use refusal::Cell;
 use refusal::Coord;
 use refusal::Refusal;
+use table::Position;
 
 // The square of the difference on one axis; 5 stands for any above 4.
 fn short_square(a: i32, b: i32) -> u32
@@ -69,14 +70,16 @@ pub fn step_cost(a: Cell, b: Cell) -> f64
 
 // Whether the rule keeps the drone from entering a cell.
 pub fn is_shut(flags: &[u8], count: usize, rule: u32, c: Cell) -> bool
-    requires { ⌜ isSound 20 (now flags) count ≡ true ⌝ }
-    ensures { λ r. ⌜ r ≡ isShut rule (rowsOf 20 (now (flags .entry)) count) c ⌝ }
+    requires { ⌜ isSound flagWidth (now flags) count ≡ true ⌝ }
+    ensures { λ r. ⌜ r ≡ isShut rule (rowsOf flagWidth (now (flags .entry)) count) c ⌝ }
 {
     if rule == 1 {
-        let place = layer::find(flags, 20, count, c);
+        let place = table::find(flags, table::FLAG_WIDTH, count, c);
         match place {
-            Place::At(i) => layer::flags::is_blocked(layer::kept_at(flags, 20, i) as u32),
-            Place::Before(_i) => false,
+            Position::At(i) => table::flags::is_blocked(
+                table::kept_at(flags, table::FLAG_WIDTH, i) as u32,
+            ),
+            Position::Before(_i) => false,
         }
     } else {
         false
@@ -113,16 +116,16 @@ fn arrive(last: Cell, paid: f64, goal: Cell, cost: u64) -> u32
 
 // The verdict on a list that begins at its start, step by step; no cell is tested before it is entered.
 fn walk(route: &[u8], goal: Cell, cost: u64, flags: &[u8], count: usize, rule: u32) -> u32
-    requires { ⌜ 16 ≤ length (now route) ⌝ }
-    requires { ⌜ isSound 20 (now flags) count ≡ true ⌝ }
-    ensures { λ r. ⌜ r ≡ judgeWalk goal cost (walkOf (now (route .entry)) rule (rowsOf 20 (now (flags .entry)) count)) ⌝ }
+    requires { ⌜ cellWidth ≤ length (now route) ⌝ }
+    requires { ⌜ isSound flagWidth (now flags) count ≡ true ⌝ }
+    ensures { λ r. ⌜ r ≡ judgeWalk goal cost (walkOf (now (route .entry)) rule (rowsOf flagWidth (now (flags .entry)) count)) ⌝ }
 {
-    let cells = route.len() / 16;
+    let cells = route.len() / cell::CELL_WIDTH;
     let mut last = cell::read_at(route, 0);
     let mut paid = 0.0;
     let mut i = 1;
     while i < cells {
-        let next = cell::read_at(route, 16 * i);
+        let next = cell::read_at(route, cell::CELL_WIDTH * i);
         if !is_step(last, next) {
             return NOT_A_NEIGHBOR;
         }
@@ -147,8 +150,8 @@ fn judge(
     rule: u32,
 ) -> u32
     requires { ⌜ isList (now route) ≡ true ⌝ }
-    requires { ⌜ isSound 20 (now flags) count ≡ true ⌝ }
-    ensures { λ r. ⌜ r ≡ judgeCells rule (rowsOf 20 (now (flags .entry)) count) start goal cost (cellsOf (now (route .entry))) ⌝ }
+    requires { ⌜ isSound flagWidth (now flags) count ≡ true ⌝ }
+    ensures { λ r. ⌜ r ≡ judgeCells rule (rowsOf flagWidth (now (flags .entry)) count) start goal cost (cellsOf (now (route .entry))) ⌝ }
 {
     if route.len() == 0 {
         return EMPTY;
@@ -163,9 +166,9 @@ fn judge(
 fn are_lists(route: &[u8], start: &[u8], goal: &[u8]) -> bool
     ensures { λ r. ⌜ r ≡ areLists (now (route .entry)) (now (start .entry)) (now (goal .entry)) ⌝ }
 {
-    if route.len() % 16 == 0 {
-        if start.len() == 16 {
-            return goal.len() == 16;
+    if route.len() % cell::CELL_WIDTH == 0 {
+        if start.len() == cell::CELL_WIDTH {
+            return goal.len() == cell::CELL_WIDTH;
         }
     }
     false
@@ -181,12 +184,12 @@ pub fn verdict(
     count: usize,
     rule: u32,
 ) -> u32
-    ensures { λ r. ⌜ r ≡ verdictOf (now (route .entry)) (now (start .entry)) (now (goal .entry)) cost (now (flags .entry)) count rule ⌝ }
+    ensures { λ r. ⌜ r ≡ verdictOf (claim (now (route .entry)) (now (start .entry)) (now (goal .entry)) cost) (layer (now (flags .entry)) count) rule ⌝ }
 {
     if !are_lists(route, start, goal) {
         return refusal::number(Refusal::BadList);
     }
-    if !layer::is_sound(flags, 20, count) {
+    if !table::is_sound(flags, table::FLAG_WIDTH, count) {
         return refusal::number(Refusal::BadLayer);
     }
     if rule >= 2 {
@@ -204,7 +207,8 @@ const SENT: u32 = 1;
 
 const HOMING: u32 = 2;
 
-// Which of two routes is flown, by their verdicts: the sent one, from `start` to `goal` at `cost`, before the homing one, from `departure` to `home` at `price`.
+// Which of two routes is flown, by their verdicts: the sent one, from `start` to `goal` at `cost`, before the homing one, from `departure` to `home`
+// at `price`.
 pub fn choice(
     sent: &[u8],
     homing: &[u8],
@@ -218,7 +222,10 @@ pub fn choice(
     count: usize,
     rule: u32,
 ) -> u32
-    ensures { λ r. ⌜ r ≡ choiceBetween (now (sent .entry)) (now (homing .entry)) (now (start .entry)) (now (goal .entry)) cost (now (departure .entry)) (now (home .entry)) price (now (flags .entry)) count rule ⌝ }
+    ensures { λ r.
+        let sending = claim (now (sent .entry)) (now (start .entry)) (now (goal .entry)) cost in
+        let returning = claim (now (homing .entry)) (now (departure .entry)) (now (home .entry)) price in
+        ⌜ r ≡ choiceBetween sending returning (layer (now (flags .entry)) count) rule ⌝ }
 {
     if verdict(sent, start, goal, cost, flags, count, rule) == ACCEPTED {
         return SENT;
@@ -243,7 +250,10 @@ pub fn choose<'a>(
     count: usize,
     rule: u32,
 ) -> &'a [u8]
-    ensures { λ r. ⌜ Chosen (choiceBetween (now (sent .entry)) (now (homing .entry)) (now (start .entry)) (now (goal .entry)) cost (now (departure .entry)) (now (home .entry)) price (now (flags .entry)) count rule) (sent .entry) (homing .entry) r ⌝ }
+    ensures { λ r.
+        let sending = claim (now (sent .entry)) (now (start .entry)) (now (goal .entry)) cost in
+        let returning = claim (now (homing .entry)) (now (departure .entry)) (now (home .entry)) price in
+        ⌜ Chosen (choiceBetween sending returning (layer (now (flags .entry)) count) rule) (sent .entry) (homing .entry) r ⌝ }
 {
     let which = choice(
         sent,

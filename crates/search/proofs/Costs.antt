@@ -1,4 +1,4 @@
--- A cost is the bits of a number that is no NaN and has the sign +. Sums of costs, steps and distances are costs, and costs are in the order of their bits. Assumes nothing.
+-- A cost is the bits of a number that is no NaN and has the sign +. Sums of costs, steps and distances are costs, and costs are in the order of their bits.
 use mathlib.Core.Path.{_≡_, refl, sym, ap, subst, _∙_}
 use mathlib.Core.Bool.{Bool, true, false, not, cond, _&&_, _||_, Bool·beq, true≢false}
 use Prim.Native.Nat.{ℕ, zero, suc, _+_, _*_, _/_, _%_, _^_, _≤_}
@@ -11,7 +11,7 @@ use lib.Ieee.Exact.{HasValue}
 use lib.Ieee.Fits.{round-is, add-fits}
 use Rattle.refusal.specs.declared.Cell.{Cell}
 use Rattle.refusal.specs.declared.Coord.{Coord}
-use Rattle.float.specs.Laws.{either}
+use Rattle.float.proofs.Laws.{either}
 use Rattle.float.proofs.Sizes.{unsigned, numbers-order}
 use Rattle.lattice.specs.Lattice.{isOdd}
 use Rattle.distance.specs.declared.DistanceAnswer.{DistanceAnswer}
@@ -23,7 +23,7 @@ use Rattle.cell.specs.Cell.{xOf, coordOf, distanceCells}
 use Rattle.route.specs.Route.{costBetween}
 use Rattle.search.specs.Search.{plus, less, is}
 use Rattle.search.specs.Plan.{distanceBits}
-use Rattle.search.specs.Cases.{whether}
+use Rattle.general.proofs.Tests.{whether}
 use Rattle.search.specs.Costs.{Cost, equal}
 
 -- ---- a number with its sign, the infinities among them

@@ -1,5 +1,5 @@
--- Every f and g that a search comes to is a cost (`reached-costs`), and so is the cost that is told (`told-cost`). So the keys by which waiting entries come out are in document 01's
--- order: by f as a number, equal f by the cell, one cell by g as a number (`keys-in-order`). Assumes nothing.
+-- Every f and g that a search comes to is a cost (`reached-costs`). So the keys by which waiting entries come out are in document 01's order: by f as a number, equal f by the cell, one
+-- cell by g as a number (`keys-in-order`).
 use mathlib.Core.Path.{_≡_, refl, sym, ap, subst, _∙_}
 use mathlib.Core.Bool.{Bool, true, false, cond, _&&_, _||_}
 use mathlib.Core.List.{List, [], _∷_, List·Memᴰ}
@@ -10,40 +10,44 @@ use native.Mathlib.Omega.{arith}
 use lib.Dec.{ltb, eqb, lit<}
 use borrow.Author.Tests.{le-ltb, eqb-true, eqb-false}
 use Rattle.refusal.specs.declared.Cell.{Cell}
-use Rattle.refusal.specs.Table.{rawOf}
-use Rattle.lattice.specs.Tables.{Each, at-member}
-use Rattle.cell.specs.Bits.{less-digits, same-low, same-high}
-use Rattle.cell.specs.Laws.{Words}
-use Rattle.layer.specs.Layer as layer
-use Rattle.search.specs.Search.{Problem, Told, is, refused, Row, Entry, State, Flow, going, done, found, find, row, put, close, gOf, plus, keyOf, pushed, relaxAll, arrived, popped, next, step, run, begin}
-use Rattle.search.specs.Plan.{cellOf, planOf}
-use Rattle.search.specs.Midway.{closing}
-use Rattle.search.specs.Cases.{on-test}
-use Rattle.search.specs.WaitingLaws.{each-insert, each-follows}
-use Rattle.search.specs.Kept.{Holding, holding-follows, Lowered, HasRoom, relaxAll-keeps, popped-keeps, run-keeps}
-use Rattle.search.specs.Besides.{cell-raw, Beside, near-beside}
+use Rattle.refusal.specs.Refusals.{rawOf}
+use Rattle.general.specs.Each.{Each}
+use Rattle.general.proofs.Lists.{at-member}
+use Rattle.cell.proofs.Bits.{less-digits, same-low, same-high}
+use Rattle.cell.specs.Terms.{Words}
+use Rattle.table.specs.Records as layer
+use Rattle.search.specs.Search.{Problem, OrRefused, is, refused, KnownRow, Entry, State, Flow, going, find, row, put, close, gOf, plus, waitingKey, pushed, relaxAll, arrived, popped, next, step, run, begin}
+use Rattle.search.specs.Plan.{cellOf, planOf, endpoints}
+use Rattle.known.specs.Workspace.{inRooms}
+use Rattle.search.specs.Reached.{closing}
+use Rattle.general.proofs.Tests.{on-test}
+use Rattle.search.proofs.WaitingLaws.{each-insert, each-follows}
+use Rattle.search.proofs.Invariants.{Holding, holding-follows, Lowered, HasRoom, relaxAll-keeps, popped-keeps, run-keeps}
+use Rattle.search.proofs.NeighborSteps.{cell-raw, near-beside}
+use Rattle.search.specs.Terms.{Beside}
 use Rattle.search.specs.Costs.{Cost, firstOut, CostRow, CostEntry, CostState}
 use Rattle.search.proofs.Costs.{cost-small, plus-cost, cost-order, cost-equal, step-cost, ahead-cost}
+use Rattle.table.specs.Records.{layer}
 
 -- ---- known cells
 
 -- what holds of each row holds of each after one was put
-pub each-put : (Q : Row → Type 0) (c g b : ℕ) (k : List Row) → Each Q k → Q (row c g b false) → Each Q (put c g b k)
+pub each-put : (Q : KnownRow → Type 0) (c g b : ℕ) (k : List KnownRow) → Each Q k → Q (row c g b false) → Each Q (put c g b k)
 unfolding put
 each-put Q c g b [] h q = (q, tt)
 each-put Q c g b (e ∷ es) h q = on-test (Each Q) (eqb c (e .cell)) (row c g b false ∷ es) (e ∷ put c g b es) (λ t. (q, h .1)) (λ t. (h .0, each-put Q c g b es (h .1) q))
 
 -- closing a cell changes no g
-pub each-close : (c : ℕ) (k : List Row) → Each CostRow k → Each CostRow (close c k)
+pub each-close : (c : ℕ) (k : List KnownRow) → Each CostRow k → Each CostRow (close c k)
 unfolding close
 each-close c [] h = tt
 each-close c (e ∷ es) h = on-test (Each CostRow) (eqb c (e .cell)) (row (e .cell) (e .g) (e .before) true ∷ es) (e ∷ close c es) (λ t. h) (λ t. (h .0, each-close c es (h .1)))
 
 -- the g of a cell, known or not
-find-cost : (c : ℕ) (k : List Row) → Each CostRow k → Cost (gOf (find c k))
+find-cost : (c : ℕ) (k : List KnownRow) → Each CostRow k → Cost (gOf (find c k))
 unfolding find
 find-cost c [] h = cost-small 0x7FF0_0000_0000_0000 (omega arith)
-find-cost c (e ∷ es) h = on-test (λ (o : Option Row). Cost (gOf o)) (eqb c (e .cell)) (some e) (find c es) (λ t. h .0) (λ t. find-cost c es (h .1))
+find-cost c (e ∷ es) h = on-test (λ (o : Option KnownRow). Cost (gOf o)) (eqb c (e .cell)) (some e) (find c es) (λ t. h .0) (λ t. find-cost c es (h .1))
 
 -- ---- over any problem
 
@@ -55,8 +59,8 @@ Narrow n = n < 2 ^ 128
 record CostProblem (P : Problem) : Type 0 where
   start-word : Narrow (P .start)
   steps : (c n : ℕ) → Cost (P .cost c n)
-  estimates : (n h : ℕ) → P .ahead n ≡ is h → Cost h
-  near-words : (c : ℕ) (ns : List ℕ) → P .near c ≡ is ns → Each Narrow ns
+  estimates : (n h : ℕ) → P .heuristic n ≡ is h → Cost h
+  near-words : (c : ℕ) (ns : List ℕ) → P .neighbors c ≡ is ns → Each Narrow ns
 
 -- what is told as the cost of a route is one
 abbrev Paid : List ℕ → ℕ → ℕ → Type 0
@@ -67,7 +71,7 @@ CostFlow = Holding CostState Paid
 
 module _ (P : Problem) (costs : CostProblem P) where
   -- a push adds a row and an entry, both at sums of costs
-  push-costs : (c g : ℕ) → Cost g → (n h : ℕ) (s : State) → P .ahead n ≡ is h → Narrow n → CostState s → Lowered P n (plus g (P .cost c n)) s → HasRoom P n s
+  push-costs : (c g : ℕ) → Cost g → (n h : ℕ) (s : State) → P .heuristic n ≡ is h → Narrow n → CostState s → Lowered P n (plus g (P .cost c n)) s → HasRoom P n s
       → CostState (pushed P c n (plus g (P .cost c n)) h s)
   push-costs c g cost n h s estimate narrow kept l room =
       let t = plus g (P .cost c n) in
@@ -94,15 +98,15 @@ module _ (P : Problem) (costs : CostProblem P) where
       go [] waiting = tt
       go (e ∷ rest) waiting = popped-costs (e .cell) rest s (kept .of-known) (waiting .1)
 
-  begin-costs : (h : Told ℕ) → P .ahead (P .start) ≡ h → CostFlow (begin P h)
+  begin-costs : (h : OrRefused ℕ) → P .heuristic (P .start) ≡ h → CostFlow (begin P h)
   begin-costs (refused r) e = tt
   begin-costs (is h) e =
       let nothing = cost-small 0 (omega arith) in
       record { of-known = (nothing, tt); of-waiting = (record { f-cost = costs .estimates (P .start) h e; g-cost = nothing; cell-word = costs .start-word }, tt) }
 
   -- so many pops keep it
-  run-costs : (k : ℕ) → CostFlow (run P k (begin P (P .ahead (P .start))))
-  run-costs k = run-keeps P CostState Paid step-costs k (begin P (P .ahead (P .start))) (begin-costs (P .ahead (P .start)) refl)
+  run-costs : (k : ℕ) → CostFlow (run P k (begin P (P .heuristic (P .start))))
+  run-costs k = run-keeps P CostState Paid step-costs k (begin P (P .heuristic (P .start))) (begin-costs (P .heuristic (P .start)) refl)
 
 -- ---- the order of keys
 
@@ -128,8 +132,8 @@ module _ (base a b c d : ℕ) (hb : b < base) (hd : d < base) where
       go false f g = sym (same-high base a b c d hb hd (g refl))
 
 -- the key of entries whose costs are costs: f as a number, then the cell, then g as a number
-key-order : (a b : Entry) → CostEntry a → CostEntry b → ltb (keyOf a) (keyOf b) ≡ firstOut a b
-unfolding keyOf firstOut
+key-order : (a b : Entry) → CostEntry a → CostEntry b → ltb (waitingKey a) (waitingKey b) ≡ firstOut a b
+unfolding waitingKey firstOut
 key-order a b v w =
     let wide : ℕ = 340282366920938463463374607431768211456 in
     let first = a .f * wide + a .cell in
@@ -157,7 +161,7 @@ narrow-words n w = div-lt-iff-lt-mul {k = 2 ^ 64} {x = n} {y = 2 ^ 64} (lit< tt)
 -- between a start of 128 bits and any goal, in any rooms, under any limit, rule and flags
 module _ (s e : Cell) (known waiting limit rule : ℕ) (rows : List layer.Row) (in-start : Words s) where
   abbrev plan : Problem
-  plan = planOf s e known waiting limit rule rows
+  plan = planOf (endpoints s e) (inRooms known waiting) limit rule rows
 
   -- its steps and distances are costs, and its cells have 128 bits
   plan-costs : CostProblem plan
@@ -172,14 +176,10 @@ module _ (s e : Cell) (known waiting limit rule : ℕ) (rows : List layer.Row) (
 
   module _ (pops : ℕ) where
     -- after so many pops every f and g is a cost
-    pub reached-costs : (t : State) → run plan pops (begin plan (plan .ahead (plan .start))) ≡ going t → CostState t
+    pub reached-costs : (t : State) → run plan pops (begin plan (plan .heuristic (plan .start))) ≡ going t → CostState t
     reached-costs t r = subst CostFlow r (run-costs plan plan-costs pops)
 
-    -- and so is the cost of what is found
-    pub told-cost : (cells : List ℕ) (cost expansions : ℕ) → run plan pops (begin plan (plan .ahead (plan .start))) ≡ done (found cells cost expansions) → Cost cost
-    told-cost cells cost expansions r = subst CostFlow r (run-costs plan plan-costs pops)
-
     -- THE THEOREM: of any two waiting entries, the smaller key is that of the entry which document 01 has come out first
-    pub keys-in-order : (t : State) → run plan pops (begin plan (plan .ahead (plan .start))) ≡ going t
-        → (a b : Entry) → List·Memᴰ a (t .waiting) → List·Memᴰ b (t .waiting) → ltb (keyOf a) (keyOf b) ≡ firstOut a b
+    pub keys-in-order : (t : State) → run plan pops (begin plan (plan .heuristic (plan .start))) ≡ going t
+        → (a b : Entry) → List·Memᴰ a (t .waiting) → List·Memᴰ b (t .waiting) → ltb (waitingKey a) (waitingKey b) ≡ firstOut a b
     keys-in-order t r a b m n = let w = reached-costs t r .of-waiting in key-order a b (at-member CostEntry m w) (at-member CostEntry n w)

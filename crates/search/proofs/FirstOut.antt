@@ -1,4 +1,4 @@
--- The entry that a search pops next is the one that document 01 has come out first: no waiting entry comes before it (`popped-is-first`). Assumes nothing.
+-- The entry that a search pops next is the one that document 01 has come out first: no waiting entry comes before it (`popped-is-first`).
 use mathlib.Core.Path.{_≡_, refl, sym, subst, _∙_}
 use mathlib.Core.Bool.{false}
 use mathlib.Core.List.{List, [], _∷_, List·Memᴰ, List·Memᴰ·head, List·Memᴰ·tail}
@@ -7,23 +7,26 @@ use native.Mathlib.Nat.{le-trans, le-of-lt}
 use lib.Dec.{leb}
 use borrow.Author.Tests.{le-ltb, leb-true, leb-false}
 use Rattle.refusal.specs.declared.Cell.{Cell}
-use Rattle.lattice.specs.Tables.{Each, at-member}
-use Rattle.cell.specs.Laws.{Words}
-use Rattle.layer.specs.Layer as layer
-use Rattle.search.specs.Search.{Problem, Told, is, refused, Entry, State, Flow, going, find, gOf, plus, keyOf, insert, pushed, relaxAll, arrived, popped, next, step, run, begin}
-use Rattle.search.specs.Plan.{planOf}
-use Rattle.search.specs.Midway.{closing}
-use Rattle.search.specs.Cases.{on-test}
-use Rattle.search.specs.WaitingLaws.{each-insert, each-follows}
-use Rattle.search.specs.Ending.{Any, each-any}
-use Rattle.search.specs.Kept.{Holding, holding-follows, Lowered, HasRoom, relaxAll-keeps, popped-keeps, run-keeps}
+use Rattle.general.specs.Each.{Each}
+use Rattle.general.proofs.Lists.{at-member}
+use Rattle.cell.specs.Terms.{Words}
+use Rattle.table.specs.Records as layer
+use Rattle.search.specs.Search.{Problem, OrRefused, is, refused, Entry, State, Flow, going, find, gOf, plus, waitingKey, insert, pushed, relaxAll, arrived, popped, next, step, run, begin}
+use Rattle.search.specs.Plan.{planOf, endpoints}
+use Rattle.known.specs.Workspace.{inRooms}
+use Rattle.search.specs.Reached.{closing}
+use Rattle.general.proofs.Tests.{on-test}
+use Rattle.search.proofs.WaitingLaws.{each-insert, each-follows}
+use Rattle.search.proofs.Ending.{Any, each-any}
+use Rattle.search.proofs.Invariants.{Holding, holding-follows, Lowered, HasRoom, relaxAll-keeps, popped-keeps, run-keeps}
 use Rattle.search.specs.Costs.{firstOut}
 use Rattle.search.proofs.CostsKept.{keys-in-order}
+use Rattle.table.specs.Records.{layer}
 
 -- ---- entries in the order of their keys
 
 abbrev NotAfter : Entry → Entry → Type 0
-NotAfter e d = keyOf e ≤ keyOf d
+NotAfter e d = waitingKey e ≤ waitingKey d
 
 -- each is followed by none that should come before it
 abbrev Ascending : List Entry → Type 0
@@ -35,9 +38,9 @@ ascending-insert : (e : Entry) (w : List Entry) → Ascending w → Ascending (i
 unfolding insert
 ascending-insert e [] h = (tt, tt)
 ascending-insert e (d ∷ ds) h =
-    on-test Ascending (leb (keyOf e) (keyOf d)) (e ∷ d ∷ ds) (d ∷ insert e ds)
-    (λ t. let l = leb-true (keyOf e) (keyOf d) t in ((l, each-follows (NotAfter d) (NotAfter e) (λ x m. le-trans l m) ds (h .0)), h))
-    (λ t. let l = leb-false (keyOf e) (keyOf d) t in (each-insert (NotAfter d) e ds (h .0) (le-of-lt l), ascending-insert e ds (h .1)))
+    on-test Ascending (leb (waitingKey e) (waitingKey d)) (e ∷ d ∷ ds) (d ∷ insert e ds)
+    (λ t. let l = leb-true (waitingKey e) (waitingKey d) t in ((l, each-follows (NotAfter d) (NotAfter e) (λ x m. le-trans l m) ds (h .0)), h))
+    (λ t. let l = leb-false (waitingKey e) (waitingKey d) t in (each-insert (NotAfter d) e ds (h .0) (le-of-lt l), ascending-insert e ds (h .1)))
 
 -- ---- over any problem
 
@@ -49,7 +52,7 @@ module _ (P : Problem) where
   abbrev InOrder : Flow → Type 0
   InOrder = Holding Ordered (Any P)
 
-  push-ordered : (c g n h : ℕ) (s : State) → P .ahead n ≡ is h → Unit {0} → Ordered s → Lowered P n (plus g (P .cost c n)) s → HasRoom P n s
+  push-ordered : (c g n h : ℕ) (s : State) → P .heuristic n ≡ is h → Unit {0} → Ordered s → Lowered P n (plus g (P .cost c n)) s → HasRoom P n s
       → Ordered (pushed P c n (plus g (P .cost c n)) h s)
   push-ordered c g n h s estimate any kept l room = ascending-insert (record { f = plus (plus g (P .cost c n)) h; cell = n; g = plus g (P .cost c n) }) (s .waiting) kept
 
@@ -69,25 +72,25 @@ module _ (P : Problem) where
       go [] h = tt
       go (e ∷ rest) h = popped-ordered (e .cell) rest s (h .1)
 
-  begin-ordered : (h : Told ℕ) → InOrder (begin P h)
+  begin-ordered : (h : OrRefused ℕ) → InOrder (begin P h)
   begin-ordered (refused r) = tt
   begin-ordered (is h) = (tt, tt)
 
   -- so many pops keep it
-  run-ordered : (k : ℕ) → InOrder (run P k (begin P (P .ahead (P .start))))
-  run-ordered k = run-keeps P Ordered (Any P) step-ordered k (begin P (P .ahead (P .start))) (begin-ordered (P .ahead (P .start)))
+  run-ordered : (k : ℕ) → InOrder (run P k (begin P (P .heuristic (P .start))))
+  run-ordered k = run-keeps P Ordered (Any P) step-ordered k (begin P (P .heuristic (P .start))) (begin-ordered (P .heuristic (P .start)))
 
 -- ---- the search over cells
 
 -- between a start of 128 bits and any goal, in any rooms, under any limit, rule and flags
 module _ (s e : Cell) (known waiting limit rule : ℕ) (rows : List layer.Row) (in-start : Words s) where
   abbrev plan : Problem
-  plan = planOf s e known waiting limit rule rows
+  plan = planOf (endpoints s e) (inRooms known waiting) limit rule rows
 
   -- after so many pops: nothing that waits comes before the entry that is popped next
-  pub popped-is-first : (pops : ℕ) (t : State) → run plan pops (begin plan (plan .ahead (plan .start))) ≡ going t
+  pub popped-is-first : (pops : ℕ) (t : State) → run plan pops (begin plan (plan .heuristic (plan .start))) ≡ going t
       → (a : Entry) (rest : List Entry) → t .waiting ≡ a ∷ rest → (b : Entry) → List·Memᴰ b rest → firstOut b a ≡ false
   popped-is-first pops t r a rest w b m =
       let kept : Ascending (a ∷ rest) = subst Ascending w (subst (InOrder plan) r (run-ordered plan pops)) in
       sym (keys-in-order s e known waiting limit rule rows in-start pops t r b a (subst (List·Memᴰ b) (sym w) (List·Memᴰ·tail m)) (subst (List·Memᴰ a) (sym w) (List·Memᴰ·head refl)))
-      ∙ le-ltb (keyOf b) (keyOf a) (at-member (NotAfter a) m (kept .0))
+      ∙ le-ltb (waitingKey b) (waitingKey a) (at-member (NotAfter a) m (kept .0))

@@ -1,3 +1,19 @@
+pub mod InnerTheorems
+pub mod Theorems
+pub mod Accepted
+pub mod Ending
+pub mod Rooms
+pub mod KnownLaws
+pub mod WaitingLaws
+pub mod Invariants
+pub mod Trails
+pub mod NeighborSteps
+pub mod Verdicts
+pub mod ClosedCounts
+pub mod LargerRooms
+pub mod Shortages
+pub mod Refusals
+pub mod OneMore
 pub mod Points
 pub mod Limit
 pub mod RoomNeeded
@@ -6,3 +22,4 @@ pub mod Costs
 pub mod CostsKept
 pub mod FirstOut
 pub mod StepDistances
+pub mod Split

@@ -1,5 +1,5 @@
 -- "SearchLimitExceeded carries expansions, limit": a search that is refused so has closed one cell more than its limit. While it goes on it has closed no more than the limit, so the first
--- that is too many is the one after. Assumes nothing.
+-- that is too many is the one after.
 use mathlib.Core.Path.{_≡_, refl, sym}
 use mathlib.Core.List.{List, [], _∷_}
 use Prim.Native.Nat.{ℕ, _+_, _≤_, _<_}
@@ -10,24 +10,22 @@ use Rattle.refusal.specs.declared.Cell.{Cell}
 use Rattle.refusal.specs.declared.Spent.{Spent}
 use Rattle.refusal.specs.declared.Refusal.{Refusal}
 use Rattle.refusal.specs.declared.Refusal.the-variants.{SearchLimitExceeded}
-use Rattle.refusal.specs.Table.{rawOf}
+use Rattle.refusal.specs.Refusals.{rawOf}
 use Rattle.lattice.specs.declared.ParityAnswer.{ParityAnswer}
 use Rattle.lattice.specs.declared.ParityAnswer.the-variants as parity
 use Rattle.lattice.specs.Lattice.{parityOf}
 use Rattle.cell.specs.Cell.{coordOf}
-use Rattle.layer.specs.Layer.{Row}
-use Rattle.search.specs.Search.{Problem, Told, is, refused, Entry, State, Flow, going, done, found, none-found, find, gOf, relaxAll, arrived, popped, next, step, run, begin}
-use Rattle.search.specs.Plan.{planOf, popsFor, resultOf, resultBy, searchOf}
-use Rattle.search.specs.Midway.{closing}
-use Rattle.search.specs.Cases.{whether}
-use Rattle.search.specs.Ending.{Any, each-any}
-use Rattle.search.specs.Kept.{Keeping, keeping-follows, exceeded, Refuses, relaxAll-keeping, popped-keeping, run-keeping}
-use Rattle.search.specs.Refusals.{Own, mixed, overflow, parity-own, ahead-own, near-own}
-
--- what refusal 7 carries under a limit: the limit, and one expansion more
-pub record OneBeyond (limit : ℕ) (s : Spent) : Type 0 where
-  pub limit-told : s .limit ≡ limit
-  pub expansions-told : s .expansions ≡ limit + 1
+use Rattle.table.specs.Records.{Row}
+use Rattle.search.specs.Search.{Problem, OrRefused, is, refused, Entry, State, Flow, going, done, found, none-found, find, gOf, relaxAll, arrived, popped, next, step, run, begin}
+use Rattle.search.specs.Plan.{planOf, popsFor, atEnd, searchOf, endpoints}
+use Rattle.known.specs.Workspace.{inRooms}
+use Rattle.search.proofs.Split.{foundBetween}
+use Rattle.search.specs.Reached.{closing}
+use Rattle.general.proofs.Tests.{whether}
+use Rattle.search.proofs.Ending.{Any, each-any}
+use Rattle.search.proofs.Invariants.{Keeping, keeping-follows, exceeded, Refuses, relaxAll-keeping, popped-keeping, run-keeping}
+use Rattle.search.proofs.Refusals.{Own, mixed, overflow, parity-own, ahead-own, near-own}
+use Rattle.search.specs.Terms.{OneBeyond}
 
 -- if a refusal is number 7, it carries these
 abbrev pub AtLimit : ℕ → Refusal → Type 0
@@ -35,7 +33,7 @@ AtLimit limit r = (s : Spent) → r ≡ SearchLimitExceeded s → OneBeyond limi
 
 -- ---- any problem
 
-module _ (P : Problem) (refuses : Refuses P (AtLimit (P .limit))) (nowhere : AtLimit (P .limit) (P .nowhere)) where
+module _ (P : Problem) (refuses : Refuses P (AtLimit (P .limit))) (nowhere : AtLimit (P .limit) (P .noPath)) where
   -- no more cells are closed than the limit
   abbrev Few : State → Type 0
   Few s = s .count ≤ P .limit
@@ -71,13 +69,13 @@ module _ (P : Problem) (refuses : Refuses P (AtLimit (P .limit))) (nowhere : AtL
       go [] = nowhere
       go (e ∷ rest) = popped-within (e .cell) rest s few
 
-  begin-within : (a : Told ℕ) → P .ahead (P .start) ≡ a → Within (begin P a)
+  begin-within : (a : OrRefused ℕ) → P .heuristic (P .start) ≡ a → Within (begin P a)
   begin-within (refused r) e = refuses .of-ahead (P .start) r e
   begin-within (is h) e = omega arith
 
   -- whatever number of pops it is given
-  run-within : (k : ℕ) → Within (run P k (begin P (P .ahead (P .start))))
-  run-within k = run-keeping P Few (Any P) (AtLimit (P .limit)) step-within k (begin P (P .ahead (P .start))) (begin-within (P .ahead (P .start)) refl)
+  run-within : (k : ℕ) → Within (run P k (begin P (P .heuristic (P .start))))
+  run-within k = run-keeping P Few (Any P) (AtLimit (P .limit)) step-within k (begin P (P .heuristic (P .start))) (begin-within (P .heuristic (P .start)) refl)
 
 -- ---- the search over cells
 
@@ -87,12 +85,12 @@ own-unlimited limit overflow s e = absurd (let z : _≡_ {A = ℕ} 0 1 = cc in o
 
 module _ (s e : Cell) (known waiting limit rule : ℕ) (rows : List Row) where
   abbrev plan : Problem
-  plan = planOf s e known waiting limit rule rows
+  plan = planOf (endpoints s e) (inRooms known waiting) limit rule rows
 
   abbrev Limited : Flow → Type 0
   Limited = Keeping (λ (t : State). t .count ≤ limit) (Any plan) (AtLimit limit)
 
-  plan-within : (k : ℕ) → Limited (run plan k (begin plan (plan .ahead (plan .start))))
+  plan-within : (k : ℕ) → Limited (run plan k (begin plan (plan .heuristic (plan .start))))
   unfolding planOf
   plan-within =
       run-within plan
@@ -104,21 +102,21 @@ module _ (s e : Cell) (known waiting limit rule : ℕ) (rows : List Row) where
       (λ x f. absurd (let z : _≡_ {A = ℕ} 0 1 = cc in omega arith))
 
   module _ (x : Spent) where
-    flow-limit : (f : Flow) → Limited f → resultOf f ≡ none-found (SearchLimitExceeded x) → OneBeyond limit x
+    flow-limit : (f : Flow) → Limited f → atEnd f ≡ none-found (SearchLimitExceeded x) → OneBeyond limit x
     flow-limit (going t) h f = absurd (let z : _≡_ {A = ℕ} 0 1 = cc in omega arith)
     flow-limit (done (found cells cost expansions)) h f = absurd (let z : _≡_ {A = ℕ} 0 1 = cc in omega arith)
     flow-limit (done (none-found r)) h f = h x (let same : r ≡ SearchLimitExceeded x = cc in same)
 
-    result-limit : (p q : ParityAnswer) → parityOf (coordOf s) ≡ p → parityOf (coordOf e) ≡ q → resultBy p q plan ≡ none-found (SearchLimitExceeded x) → OneBeyond limit x
+    result-limit : (p q : ParityAnswer) → parityOf (coordOf s) ≡ p → parityOf (coordOf e) ≡ q → foundBetween p q plan ≡ none-found (SearchLimitExceeded x) → OneBeyond limit x
     result-limit (parity.Refused r) q first second f = own-unlimited limit (parity-own (coordOf s) r first) x (let same : r ≡ SearchLimitExceeded x = cc in same)
     result-limit (parity.Is p) (parity.Refused r) first second f = own-unlimited limit (parity-own (coordOf e) r second) x (let same : r ≡ SearchLimitExceeded x = cc in same)
     result-limit (parity.Is p) (parity.Is q) first second f =
         let pops = popsFor (plan .knownRoom) (plan .waitingRoom) in
-        flow-limit (run plan pops (begin plan (plan .ahead (plan .start)))) (plan-within pops) f
+        flow-limit (run plan pops (begin plan (plan .heuristic (plan .start)))) (plan-within pops) f
 
 -- a search that is refused beyond its limit tells that limit, and one expansion more
 pub limit-one-beyond : (s e : Cell) (known waiting limit rule : ℕ) (rows : List Row) (x : Spent)
-    → searchOf s e known waiting limit rule rows ≡ none-found (SearchLimitExceeded x) → OneBeyond limit x
+    → searchOf (endpoints s e) (inRooms known waiting) limit rule rows ≡ none-found (SearchLimitExceeded x) → OneBeyond limit x
 unfolding searchOf
 limit-one-beyond s e known waiting limit rule rows x f =
     whether (eqb (rawOf s) (rawOf e))

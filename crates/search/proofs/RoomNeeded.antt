@@ -1,5 +1,5 @@
 -- "NoRoom is given exactly where the plain search would need one more", both ways. `no-room-first-more`: a search ends with NoRoom of a room if and only if it comes to a place at which the search
--- in larger rooms takes one more than that room holds. `no-room-needed`: and it ends with NoRoom of one of the two if and only if the search in larger rooms anywhere needs one more. Assumes nothing.
+-- in larger rooms takes one more than that room holds. `no-room-needed`: and it ends with NoRoom of one of the two if and only if the search in larger rooms anywhere needs one more.
 use mathlib.Core.Path.{_≡_, refl, sym, ap, _∙_}
 use mathlib.Core.Logic.{_⊎_, inl, inr, _↔_}
 use mathlib.Core.Bool.{true, false, _||_}
@@ -16,31 +16,34 @@ use Rattle.refusal.specs.declared.Room.{Room}
 use Rattle.refusal.specs.declared.Room.the-variants.{Known, Waiting}
 use Rattle.refusal.specs.declared.Refusal.{Refusal}
 use Rattle.refusal.specs.declared.Refusal.the-variants.{NoRoom}
-use Rattle.refusal.specs.Table.{rawOf}
+use Rattle.refusal.specs.Refusals.{rawOf}
 use Rattle.lattice.specs.declared.ParityAnswer.{ParityAnswer}
 use Rattle.lattice.specs.declared.ParityAnswer.the-variants as parity
-use Rattle.lattice.specs.Lattice.{isLatticePoint, parityOf}
-use Rattle.lattice.specs.Laws.{parity-point, point-parity}
-use Rattle.cell.specs.Cell.{coordOf, packed}
-use Rattle.layer.specs.Layer as layer
-use Rattle.search.specs.Search.{Problem, Told, is, refused, Row, Entry, State, Result, found, none-found, Flow, going, done, stopped, andThen, find, isClosed, isKnown, gOf, plus, less, pushed, push, lower, tried, relax, relaxAll, around, entered, popped, next, step, run, begin, Ends}
-use Rattle.search.specs.Plan.{planOf, popsFor, resultOf, resultBy, searchOf}
-use Rattle.search.specs.Cases.{whether, neither}
-use Rattle.search.specs.Counted.{length-put-known, length-put-new}
-use Rattle.search.specs.Ending.{Roomy, run-split, ends, result-is}
-use Rattle.search.specs.Kept.{Lowered}
-use Rattle.search.specs.Midway.{closing, Reached, at-first, popped-on, Midway, opened, looked-on, OneMore, one-known, one-refused, one-waiting, MoreAt, takes-known, takes-refused, takes-waiting, FirstMore}
-use Rattle.search.specs.LargerRooms.{withRooms, Short, short-known, short-waiting, Alike, relax-alike, step-alike}
-use Rattle.search.specs.Shortages.{Full, of-known, of-waiting}
-use Rattle.search.specs.OneMore.{looked-roomy, midway-roomy, short-first-more, short-one-more}
-use Rattle.search.specs.Refusals.{parity-other, plan-refusals}
-use Rattle.search.proofs.Points.{plain}
+use Rattle.lattice.specs.Lattice.{parityOf}
+use Rattle.lattice.proofs.Laws.{parity-point, point-parity}
+use Rattle.cell.specs.Cell.{coordOf}
+use Rattle.table.specs.Records as layer
+use Rattle.search.specs.Search.{Problem, OrRefused, is, refused, KnownRow, Entry, State, Result, found, none-found, Flow, going, done, stopped, andThen, find, isClosed, isKnown, gOf, plus, less, pushed, push, lower, tried, relax, relaxAll, around, entered, popped, next, step, run, begin, Ends}
+use Rattle.search.specs.Plan.{planOf, popsFor, atEnd, searchOf, endpoints}
+use Rattle.known.specs.Workspace.{inRooms}
+use Rattle.search.proofs.Split.{foundBetween}
+use Rattle.general.proofs.Tests.{whether, neither}
+use Rattle.search.proofs.ClosedCounts.{length-put-known, length-put-new}
+use Rattle.search.proofs.Ending.{Roomy, run-split, ends, result-is}
+use Rattle.search.proofs.Invariants.{Lowered}
+use Rattle.search.specs.Reached.{closing, Reached, at-first, popped-on, Midway, opened, looked-on, OneMore, one-known, one-refused, one-waiting, MoreAt, takes-known, takes-refused, takes-waiting, FirstMore}
+use Rattle.search.proofs.LargerRooms.{withRooms, Short, short-known, short-waiting, Alike, relax-alike, step-alike}
+use Rattle.search.proofs.Shortages.{Full, of-known, of-waiting}
+use Rattle.search.proofs.OneMore.{looked-roomy, midway-roomy, short-first-more, short-one-more}
+use Rattle.search.proofs.Refusals.{parity-other, plan-refusals}
+use Rattle.search.specs.Terms.{Apart}
+use Rattle.table.specs.Records.{layer}
 
 -- ---- a search ends as the place that it comes to says
 
 module _ (P : Problem) where
   abbrev start : Flow
-  start = begin P (P .ahead (P .start))
+  start = begin P (P .heuristic (P .start))
 
   reached-run : {s : State} → Reached P s → (k : ℕ) × (run P k start ≡ going s)
   unfolding run
@@ -53,7 +56,7 @@ module _ (P : Problem) where
 
   -- a pop that opens a cell is what looking at its neighbours is
   opened-step : (s : State) (e : Entry) (rest : List Entry) {ns : List ℕ} → s .waiting ≡ e ∷ rest → isClosed (find (e .cell) (s .known)) ≡ false
-      → ltb (P .limit) (s .count + 1) ≡ false → eqb (e .cell) (P .goal) ≡ false → P .near (e .cell) ≡ is ns
+      → ltb (P .limit) (s .count + 1) ≡ false → eqb (e .cell) (P .goal) ≡ false → P .neighbors (e .cell) ≡ is ns
       → step P s ≡ relaxAll P (e .cell) (gOf (find (e .cell) (s .known))) ns (closing (e .cell) rest s)
   unfolding step popped entered
   opened-step s e rest waits o l q near =
@@ -76,15 +79,15 @@ module _ (P : Problem) (c g n : ℕ) (s : State) where
   abbrev t : ℕ
   t = plus g (P .cost c n)
 
-  abbrev k : Option Row
+  abbrev k : Option KnownRow
   k = find n (s .known)
 
   -- it is passed by, or its g falls
   relax-by : (relax P c g n s ≡ going s) ⊎ (Lowered P n t s × (relax P c g n s ≡ lower P c n t s k))
   unfolding relax tried
   relax-by =
-      whether (isClosed k || P .shut n) (λ h. inl (rw h))
-      (λ h. let o = neither (isClosed k) (P .shut n) h in
+      whether (isClosed k || P .blocked n) (λ h. inl (rw h))
+      (λ h. let o = neither (isClosed k) (P .blocked n) h in
       whether (less t (gOf k)) (λ f. inr (record { not-closed = o .0; not-shut = o .1; falls = f }, rw (h, f))) (λ f. inl (rw (h, f))))
 
   -- where a room is full, it is refused
@@ -97,18 +100,18 @@ module _ (P : Problem) (c g n : ℕ) (s : State) where
   -- a push to the state u
   record PushedTo (u : State) : Type 0 where
     h : ℕ
-    told : P .ahead n ≡ is h
+    told : P .heuristic n ≡ is h
     same : u ≡ pushed P c n t h s
 
   lower-pushes : {u : State} → lower P c n t s k ≡ going u → PushedTo u
   unfolding lower
   lower-pushes {u} e =
-      whether (isKnown k || ltb (length (s .known)) (P .knownRoom)) (λ room. by-told (P .ahead n) refl (rw room at e)) (λ room. ended (rw room at e))
+      whether (isKnown k || ltb (length (s .known)) (P .knownRoom)) (λ room. by-told (P .heuristic n) refl (rw room at e)) (λ room. ended (rw room at e))
     where
       ended : {Q : Type 0} {r : Refusal} → stopped r ≡ going u → Q
       ended f = absurd (let z : _≡_ {A = ℕ} 0 1 = cc in omega arith)
 
-      by-told : (a : Told ℕ) → P .ahead n ≡ a → push P c n t s a ≡ going u → PushedTo u
+      by-told : (a : OrRefused ℕ) → P .heuristic n ≡ a → push P c n t s a ≡ going u → PushedTo u
       by-told (refused r) a f = ended f
       by-told (is h) a f =
           whether (ltb (length (s .waiting)) (P .waitingRoom)) (λ w. pushes (rw w at f)) (λ w. ended (rw w at f))
@@ -240,86 +243,68 @@ module _ (P : Problem) (known waiting : ℕ) (more-known : P .knownRoom < known)
 
 -- ---- the search over cells
 
--- two lattice points that are not the same: there is a search between them
-pub record Apart (s e : Cell) : Type 0 where
-  pub elsewhere : eqb (rawOf s) (rawOf e) ≡ false
-  pub start-point : isLatticePoint (coordOf s) ≡ true
-  pub goal-point : isLatticePoint (coordOf e) ≡ true
-
 module _ (s e : Cell) (known waiting limit rule : ℕ) (rows : List layer.Row) where
   abbrev plan : Problem
-  plan = planOf s e known waiting limit rule rows
+  plan = planOf (endpoints s e) (inRooms known waiting) limit rule rows
 
-  apart-runs : Apart s e → searchOf s e known waiting limit rule rows ≡ resultOf (run plan (popsFor (plan .knownRoom) (plan .waitingRoom)) (begin plan (plan .ahead (plan .start))))
+  apart-runs : Apart s e → searchOf (endpoints s e) (inRooms known waiting) limit rule rows ≡ atEnd (run plan (popsFor (plan .knownRoom) (plan .waitingRoom)) (begin plan (plan .heuristic (plan .start))))
   unfolding searchOf
-  apart-runs a = rw (a .elsewhere) (λ i. resultBy (point-parity (coordOf s) (a .start-point) i) (point-parity (coordOf e) (a .goal-point) i) plan)
+  apart-runs a = rw (a .elsewhere) (λ i. foundBetween (point-parity (coordOf s) (a .start-point) i) (point-parity (coordOf e) (a .goal-point) i) plan)
 
   -- a search that lacks room is one
-  no-room-apart : (room : Room) → searchOf s e known waiting limit rule rows ≡ none-found (NoRoom room) → Apart s e
+  no-room-apart : (room : Room) → searchOf (endpoints s e) (inRooms known waiting) limit rule rows ≡ none-found (NoRoom room) → Apart s e
   unfolding searchOf
   no-room-apart room f = whether (eqb (rawOf s) (rawOf e)) (λ t. alike (rw t at f)) (λ t. by-parity t (parityOf (coordOf s)) (parityOf (coordOf e)) refl refl (rw t at f))
     where
       alike : found (rawOf s ∷ []) 0 0 ≡ none-found (NoRoom room) → Apart s e
       alike g = absurd (let z : _≡_ {A = ℕ} 0 1 = cc in omega arith)
 
-      by-parity : eqb (rawOf s) (rawOf e) ≡ false → (p q : ParityAnswer) → parityOf (coordOf s) ≡ p → parityOf (coordOf e) ≡ q → resultBy p q plan ≡ none-found (NoRoom room) → Apart s e
+      by-parity : eqb (rawOf s) (rawOf e) ≡ false → (p q : ParityAnswer) → parityOf (coordOf s) ≡ p → parityOf (coordOf e) ≡ q → foundBetween p q plan ≡ none-found (NoRoom room) → Apart s e
       by-parity t (parity.Refused r) q first second g = absurd (parity-other (coordOf s) r first room (let same : r ≡ NoRoom room = cc in same))
       by-parity t (parity.Is p) (parity.Refused r) first second g = absurd (parity-other (coordOf e) r second room (let same : r ≡ NoRoom room = cc in same))
       by-parity t (parity.Is p) (parity.Is q) first second g = record { elsewhere = t; start-point = parity-point (coordOf s) p first; goal-point = parity-point (coordOf e) q second }
 
   module _ (some-known : 1 ≤ known) (some-waiting : 1 ≤ waiting) where
-    result-ends : {r : Result} → Apart s e → searchOf s e known waiting limit rule rows ≡ r → Ends plan r
+    result-ends : {r : Result} → Apart s e → searchOf (endpoints s e) (inRooms known waiting) limit rule rows ≡ r → Ends plan r
     unfolding planOf
     result-ends a f = (popsFor known waiting, ends plan some-known some-waiting ∙ ap done (sym (apart-runs a) ∙ f))
 
-    ends-result : {r : Result} → Apart s e → Ends plan r → searchOf s e known waiting limit rule rows ≡ r
+    ends-result : {r : Result} → Apart s e → Ends plan r → searchOf (endpoints s e) (inRooms known waiting) limit rule rows ≡ r
     unfolding planOf
     ends-result {r} a k = apart-runs a ∙ result-is plan some-known some-waiting r k
 
 module _ (s e : Cell) (known waiting more-known more-waiting limit rule : ℕ) (rows : List layer.Row)
     (some-known : 1 ≤ known) (some-waiting : 1 ≤ waiting) (known-grows : known < more-known) (waiting-grows : waiting < more-waiting) where
   abbrev small : Problem
-  small = planOf s e known waiting limit rule rows
+  small = planOf (endpoints s e) (inRooms known waiting) limit rule rows
 
   abbrev large : Problem
-  large = planOf s e more-known more-waiting limit rule rows
+  large = planOf (endpoints s e) (inRooms more-known more-waiting) limit rule rows
 
   -- a search ends with NoRoom of a room if and only if it comes to a place at which the search in larger rooms takes one more than that room holds
-  pub no-room-first-more : (room : Room) → (searchOf s e known waiting limit rule rows ≡ none-found (NoRoom room)) ↔ (Apart s e × FirstMore small large room)
+  pub no-room-first-more : (room : Room) → (searchOf (endpoints s e) (inRooms known waiting) limit rule rows ≡ none-found (NoRoom room)) ↔ (Apart s e × FirstMore small large room)
   unfolding planOf
   no-room-first-more room = (there, λ h. back (h .0) (h .1))
     where
-      there : searchOf s e known waiting limit rule rows ≡ none-found (NoRoom room) → Apart s e × FirstMore small large room
+      there : searchOf (endpoints s e) (inRooms known waiting) limit rule rows ≡ none-found (NoRoom room) → Apart s e × FirstMore small large room
       there f =
           let a = no-room-apart s e known waiting limit rule rows room f in
           (a, short-first-more small more-known more-waiting known-grows waiting-grows some-known some-waiting (plan-refusals s e known waiting limit rule rows) room (result-ends s e known waiting limit rule rows some-known some-waiting a f))
 
-      back : Apart s e → FirstMore small large room → searchOf s e known waiting limit rule rows ≡ none-found (NoRoom room)
+      back : Apart s e → FirstMore small large room → searchOf (endpoints s e) (inRooms known waiting) limit rule rows ≡ none-found (NoRoom room)
       back a k = ends-result s e known waiting limit rule rows some-known some-waiting a (first-more-ends small more-known more-waiting known-grows waiting-grows k)
 
   -- it ends with NoRoom of one of the two rooms if and only if the search in larger rooms anywhere needs one more than they hold
-  pub no-room-needed : ((room : Room) × (searchOf s e known waiting limit rule rows ≡ none-found (NoRoom room))) ↔ (Apart s e × ((room : Room) × OneMore large known waiting room))
+  pub no-room-needed : ((room : Room) × (searchOf (endpoints s e) (inRooms known waiting) limit rule rows ≡ none-found (NoRoom room))) ↔ (Apart s e × ((room : Room) × OneMore large known waiting room))
   unfolding planOf
   no-room-needed = (λ h. there (h .0) (h .1), λ h. back (h .0) (h .1 .1))
     where
-      there : (room : Room) → searchOf s e known waiting limit rule rows ≡ none-found (NoRoom room) → Apart s e × ((room : Room) × OneMore large known waiting room)
+      there : (room : Room) → searchOf (endpoints s e) (inRooms known waiting) limit rule rows ≡ none-found (NoRoom room) → Apart s e × ((room : Room) × OneMore large known waiting room)
       there room f =
           let a = no-room-apart s e known waiting limit rule rows room f in
           (a, (room, short-one-more small more-known more-waiting known-grows waiting-grows some-known some-waiting (plan-refusals s e known waiting limit rule rows) room (result-ends s e known waiting limit rule rows some-known some-waiting a f)))
 
-      back : Apart s e → {room : Room} → OneMore large known waiting room → (room : Room) × (searchOf s e known waiting limit rule rows ≡ none-found (NoRoom room))
+      back : Apart s e → {room : Room} → OneMore large known waiting room → (room : Room) × (searchOf (endpoints s e) (inRooms known waiting) limit rule rows ≡ none-found (NoRoom room))
       back a m =
           let k = one-more-ends small more-known more-waiting known-grows waiting-grows some-known some-waiting m in
           (k .0, ends-result s e known waiting limit rule rows some-known some-waiting a (k .1))
-
--- ---- points
-
--- from (0, 0, 0) to (2, 2, 0): with room for the start alone the first neighbour is one cell too many, though the second would be one entry too many as well; with room for three cells it is the entry
-pub rooms-short : (searchOf (plain 0 0 0) (plain 2 2 0) 1 1 100 0 [] ≡ none-found (NoRoom Known)) × (searchOf (plain 0 0 0) (plain 2 2 0) 3 1 100 0 [] ≡ none-found (NoRoom Waiting))
-unfolding searchOf packed rawOf
-rooms-short = (refl, refl)
-
--- in rooms of 3 and 3 that search needs both: one cell more than 1 at the first neighbour, and one entry more than 1 at the second. So of two rooms that are needed, the first place says which is named
-pub entry-needed-too : OneMore (planOf (plain 0 0 0) (plain 2 2 0) 3 3 100 0 []) 1 1 Waiting
-unfolding planOf searchOf packed rawOf relax step
-entry-needed-too = one-waiting (looked-on (opened (at-first refl) refl refl refl refl refl) refl) refl refl refl

@@ -1,20 +1,7 @@
 pub mod Search
 pub mod Plan
-pub mod Searched
-pub mod Midway
-pub mod Accepted
-pub mod Ending
-pub mod Rooms
-pub mod Cases
-pub mod KnownLaws
-pub mod WaitingLaws
-pub mod Kept
-pub mod Trails
-pub mod Besides
-mod Judged
-pub mod Counted
-pub mod LargerRooms
-pub mod Shortages
-pub mod Refusals
-pub mod OneMore
+pub mod SearchOutcome
+pub mod Reached
 pub mod Costs
+pub mod Terms
+pub mod Inner

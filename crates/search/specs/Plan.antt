@@ -1,6 +1,5 @@
--- The search over cells: "Order: start = goal answers with cost 0.0, zero expansions, though mixed or blocked; parity of start, then goal; heuristic overflow." The rule and the rows of the
--- flag layer say which cells are shut. Definitions only. Assumes nothing.
-use mathlib.Core.Bool.{cond}
+-- The search over cells: "start = goal answers with cost 0.0, zero expansions, though mixed or blocked; parity of start, then goal; heuristic overflow." The rule and the rows of the
+-- flag layer say which cells are blocked. Definitions only.
 use mathlib.Core.List.{List, [], _∷_, map}
 use Prim.Native.Nat.{ℕ, _+_, _*_, _/_, _%_, _^_}
 use lib.Dec.{eqb}
@@ -9,65 +8,67 @@ use Rattle.refusal.specs.declared.Cell.{Cell}
 use Rattle.refusal.specs.declared.Refusal.the-variants.{NoPathFound, BadWorkspace}
 use Rattle.refusal.specs.declared.Outcome.{Outcome}
 use Rattle.refusal.specs.declared.Outcome.the-variants as outcome
-use Rattle.refusal.specs.Table.{rawOf}
-use Rattle.lattice.specs.declared.ParityAnswer.{ParityAnswer}
-use Rattle.lattice.specs.declared.ParityAnswer.the-variants as parity
-use Rattle.lattice.specs.Lattice.{parityOf}
+use Rattle.refusal.specs.Refusals.{rawOf}
+use Rattle.lattice.specs.Lattice.{parityOf, onParities}
 use Rattle.distance.specs.declared.DistanceAnswer.{DistanceAnswer}
 use Rattle.distance.specs.declared.DistanceAnswer.the-variants as distance
 use Rattle.distance.specs.Distance.{distanceOf}
 use Rattle.cell.specs.Cell.{coordOf, neighborsOf, distanceCells}
-use Rattle.layer.specs.Layer.{Row}
+use Rattle.table.specs.Records.{Row}
 use Rattle.route.specs.Route.{costBetween, isShut}
-use Rattle.search.specs.Search.{Told, is, refused, Problem, Result, found, none-found, Flow, going, done, begin, run}
+use Rattle.search.specs.Search.{OrRefused, is, refused, Problem, Result, found, none-found, Flow, going, done, run, begin}
+use Rattle.general.specs.Refuse.{refuseIf}
+use Rattle.refusal.specs.declared.Ends.{Ends}
+use Rattle.known.specs.Workspace.{WalkRooms}
 
--- ---- a cell by its raw number
-
+-- the cell of a raw number of 128 bits
 abbrev pub cellOf : ℕ → Cell
 cellOf n = record { high = n / 2 ^ 64; low = n % 2 ^ 64 }
 
-abbrev pub nearBy : Outcome → List Cell → Told (List ℕ)
+-- a cell's neighbours by their raw numbers, or the refusal
+abbrev pub nearBy : Outcome → List Cell → OrRefused (List ℕ)
 nearBy outcome.Answered cs = is (map rawOf cs)
 nearBy (outcome.Refused r) cs = refused r
 
-abbrev pub distanceBits : DistanceAnswer → Told ℕ
+-- a distance by its bits, or the refusal
+abbrev pub distanceBits : DistanceAnswer → OrRefused ℕ
 distanceBits (distance.Is d) = is (toBits binary64 d)
 distanceBits (distance.Refused r) = refused r
 
--- the ends and the limit, the rooms, the rule with the rows of the flag layer
-unfoldable pub planOf : Cell → Cell → ℕ → ℕ → ℕ → ℕ → List Row → Problem
+-- a search from this cell to that one
+abbrev pub endpoints : Cell → Cell → Ends
+endpoints start goal = record { start = start; goal = goal }
+
+-- the problem that these ends, rooms, limit and rule make, with the rows of the flag layer
+unfoldable pub planOf : Ends → WalkRooms → ℕ → ℕ → List Row → Problem
 unfolding rawOf isShut neighborsOf costBetween distanceOf toBits
-planOf s e known waiting limit rule rows =
+planOf ends rooms limit rule rows =
     record {
-      start = rawOf s;
-      goal = rawOf e;
-      knownRoom = known;
-      waitingRoom = waiting;
+      start = rawOf (ends .start);
+      goal = rawOf (ends .goal);
+      knownRoom = rooms .known;
+      waitingRoom = rooms .waiting;
       limit = limit;
-      shut = λ n. isShut rule rows (cellOf n);
-      near = λ n. nearBy (neighborsOf (cellOf n) .outcome) (neighborsOf (cellOf n) .cells);
+      blocked = λ n. isShut rule rows (cellOf n);
+      neighbors = λ n. nearBy (neighborsOf (cellOf n) .outcome) (neighborsOf (cellOf n) .cells);
       cost = λ n m. toBits binary64 (costBetween (cellOf n) (cellOf m));
-      ahead = λ n. distanceBits (distanceCells (cellOf n) e);
-      nowhere = NoPathFound (record { start = s; goal = e });
+      heuristic = λ n. distanceBits (distanceCells (cellOf n) (ends .goal));
+      noPath = NoPathFound ends;
     }
 
--- ---- the search
-
--- what is left where the pops did not suffice; `ends` says that they always do
-abbrev pub resultOf : Flow → Result
-resultOf (done r) = r
-resultOf (going s) = none-found BadWorkspace
+-- the result once a search is done; in rooms of at least 1 it always is, by `ends` of proofs/Theorems.antt
+abbrev pub atEnd : Flow → Result
+atEnd (done r) = r
+atEnd (going s) = none-found BadWorkspace
 
 -- each pop takes an entry away, and only a pop that closes a cell, which is one of the known ones, adds entries: so many pops are enough
 abbrev pub popsFor : ℕ → ℕ → ℕ
 popsFor known waiting = (known + 1) * (waiting + 1)
 
-abbrev pub resultBy : ParityAnswer → ParityAnswer → Problem → Result
-resultBy (parity.Refused r) q P = none-found r
-resultBy (parity.Is p) (parity.Refused r) P = none-found r
-resultBy (parity.Is p) (parity.Is q) P = resultOf (run P (popsFor (P .knownRoom) (P .waitingRoom)) (begin P (P .ahead (P .start))))
-
-unfoldable pub searchOf : Cell → Cell → ℕ → ℕ → ℕ → ℕ → List Row → Result
+-- "start = goal answers with cost 0.0, zero expansions"; parity of start, then goal; else the search, pop after pop
+unfoldable pub searchOf : Ends → WalkRooms → ℕ → ℕ → List Row → Result
 unfolding planOf parityOf run
-searchOf s e known waiting limit rule rows =
-    cond (eqb (rawOf s) (rawOf e)) (found (rawOf s ∷ []) 0 0) (resultBy (parityOf (coordOf s)) (parityOf (coordOf e)) (planOf s e known waiting limit rule rows))
+searchOf ends rooms limit rule rows =
+    let P = planOf ends rooms limit rule rows in
+    refuseIf (eqb (rawOf (ends .start)) (rawOf (ends .goal))) (found (rawOf (ends .start) ∷ []) 0 0)
+    (onParities none-found (λ p q. atEnd (run P (popsFor (P .knownRoom) (P .waitingRoom)) (begin P (P .heuristic (P .start))))) (parityOf (coordOf (ends .start))) (parityOf (coordOf (ends .goal))))

@@ -1,4 +1,4 @@
--- A point with a NaN is refused: the NaN times the scale is a NaN, which is in no range. Assumes nothing.
+-- A point with a NaN is refused: the NaN times the scale is a NaN, which is in no range.
 use mathlib.Core.Path.{_≡_, sym, ap, _∙_}
 use mathlib.Core.Bool.{Bool, false, _&&_, and-false}
 use Prim.Native.Nat.{ℕ}

@@ -1,4 +1,4 @@
--- The candidates are numbers of 32 bits, which are read back from their bits as they were. Assumes nothing.
+-- The candidates are numbers of 32 bits, which are read back from their bits as they were.
 use mathlib.Core.Path.{_≡_, ap, _∙_}
 use Prim.Native.Nat.{ℕ, _≤_}
 use native.Mathlib.Omega.{arith}
@@ -10,7 +10,7 @@ use mir.Syntax.{w32}
 use mir.Val.{SFits, ofZ, toZ}
 use mir.Facts.{toZ-ofZ}
 use Rattle.snap.specs.Snap.{inRange, evenNear, oddNear}
-use Rattle.snap.specs.Ranges.{Range, even-range, odd-range}
+use Rattle.snap.proofs.Ranges.{Range, even-range, odd-range}
 
 pub range-fits : (low high : ℕ) → low ≤ 2147483648 → high ≤ 2147483647 → (n : ℤ) → Range low high n → SFits w32 n
 range-fits low high l k (pos n) h = record { sfits = omega arith }

@@ -1,23 +1,16 @@
--- Two answers that meet a public function's contract agree. Assumes nothing.
+-- Two answers that meet a public function's contract agree.
 use mathlib.Core.Path.{sym, _∙_}
-use Rattle.refusal.specs.OneAnswer.{OneAnswer}
-use Rattle.snap.proofs.physical_to_lattice.Kinds as physical-to-lattice-kinds
-use Rattle.snap.proofs.physical_to_lattice.Reads as physical-to-lattice
-use Rattle.snap.proofs.to_physical.Kinds as to-physical-kinds
-use Rattle.snap.proofs.to_physical.Reads as to-physical
-use Rattle.snap.proofs.snap_bits.Kinds as snap-bits-kinds
-use Rattle.snap.proofs.snap_bits.Reads as snap-bits
-use Rattle.snap.proofs.physical_bits.Kinds as physical-bits-kinds
-use Rattle.snap.proofs.physical_bits.Reads as physical-bits
+use Rattle.general.specs.OneAnswer.{OneAnswer}
+use Rattle.snap.proofs as here
 
-pub physical-to-lattice-one : OneAnswer 0 physical-to-lattice-kinds.ps physical-to-lattice-kinds.r physical-to-lattice.Post
+pub physical-to-lattice-one : OneAnswer 0 here.physical_to_lattice.Kinds.ps here.physical_to_lattice.Kinds.r here.physical_to_lattice.Reads.Post
 physical-to-lattice-one κs a z z′ e e′ p q = p ∙ sym q
 
-pub to-physical-one : OneAnswer 0 to-physical-kinds.ps to-physical-kinds.r to-physical.Post
+pub to-physical-one : OneAnswer 0 here.to_physical.Kinds.ps here.to_physical.Kinds.r here.to_physical.Reads.Post
 to-physical-one κs a z z′ e e′ p q = p ∙ sym q
 
-pub snap-bits-one : OneAnswer 0 snap-bits-kinds.ps snap-bits-kinds.r snap-bits.Post
+pub snap-bits-one : OneAnswer 0 here.snap_bits.Kinds.ps here.snap_bits.Kinds.r here.snap_bits.Reads.Post
 snap-bits-one κs a z z′ e e′ p q = p ∙ sym q
 
-pub physical-bits-one : OneAnswer 0 physical-bits-kinds.ps physical-bits-kinds.r physical-bits.Post
+pub physical-bits-one : OneAnswer 0 here.physical_bits.Kinds.ps here.physical_bits.Kinds.r here.physical_bits.Reads.Post
 physical-bits-one κs a z z′ e e′ p q = p ∙ sym q

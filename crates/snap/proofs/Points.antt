@@ -1,4 +1,4 @@
--- The ends of the range and what is no number, by computation. The known points of the scope document stand in one table, in the top crate. Assumes nothing.
+-- The ends of the range and what is no number, by computation. The known points of the scope document stand in one table, in the top crate.
 use mathlib.Core.Path.{_≡_, refl}
 use mathlib.Core.Bool.{true, false}
 use lib.IntN.{pos, negsuc}

@@ -1,3 +1,2 @@
 pub mod Snap
-pub mod Ranges
-pub mod Laws
+pub mod Terms

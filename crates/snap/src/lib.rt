@@ -2,7 +2,8 @@
 ghost use mathlib.Core.Path.{_≡_};
 ghost use mathlib.Core.Bool.{true, _&&_};
 ghost use lib.Ieee.{binary64, ofBits};
-ghost use Rattle.snap.specs.Snap.{point, scaled, inRange, allInRange, evenNear, oddNear, evenPoint, oddPoint, squareOff, squaresOff, nearer, snapOf, physicalOf, bitsOf, physicalBitsOf};
+ghost use Rattle.snap.specs.Snap.{point, scaled, inRange, allInRange, evenNear, oddNear, evenPoint, oddPoint, squareOff, squaresOff, nearer};
+ghost use Rattle.snap.specs.Snap.{snapOf, physicalOf, bitsOf, physicalBitsOf};
 use lattice::CoordAnswer;
 use lattice::ParityAnswer;
 use refusal::Coord;

@@ -1,3 +1,9 @@
+pub mod Limits
+pub mod Theorems
+pub mod HeaderLaws
+pub mod FileLaws
+pub mod RoundTrips
+pub mod FullRoom
 pub mod Front
 pub mod Whole
 pub mod Keeping
@@ -5,3 +11,4 @@ pub mod Lasts
 pub mod Replaced
 pub mod OneAnswer
 pub mod Points
+pub mod Split

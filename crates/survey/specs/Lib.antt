@@ -1,6 +1,3 @@
 pub mod Survey
-pub mod HeaderLaws
-pub mod FileLaws
-pub mod RoundTrips
-pub mod Gathered
-pub mod FullRoom
+pub mod Terms
+pub mod Inner

@@ -1,117 +1,60 @@
 -- Demand 3 of the calls that C makes, over the contracts that Rattle made of the source: the checker's number is 0 exactly where demand 3 holds of what it is handed, the choice is 1, 2 or 0
--- by the same words, and every route that the search returns is accepted. Of any bytes; what they say of one call, KnownPoints.antt computes. Assumes nothing.
+-- by the same words, and every route that the search returns is accepted. Of any bytes; what they say of one call, KnownPoints.antt computes.
 use mathlib.Core.Path.{_≡_, refl, sym, ap, subst, _∙_}
 use mathlib.Core.Logic.{_↔_}
 use mathlib.Core.List.{List}
 use Prim.Native.Nat.{ℕ, _*_}
 use lib.ListN.{length, take}
-use contract.Lifetimes.{Lfts}
 use denote.Ref.{now}
-use denote.Triple.Clauses.{AtExit}
-use borrow.Fn.Kinds.{Dens, resT, endedOf}
 use Rattle.words.specs.Word.{Bytes}
 use Rattle.refusal.proofs.Numbers.{refused-number}
-use Rattle.route.specs.Route.{verdictOf}
+use Rattle.table.specs.Records.{layer}
+use Rattle.route.specs.Route.{verdictOf, claim}
 use Rattle.route.specs.Accepted.{Demand3}
-use Rattle.route.specs.Demand.{accepted-exactly}
+use Rattle.route.proofs.DemandLaws.{accepted-exactly}
 use Rattle.route.proofs.Choices.{sent-exactly, homing-exactly, neither-exactly}
 use Rattle.search.specs.declared.Route.{Route}
 use Rattle.search.specs.declared.SearchAnswer.{SearchAnswer}
 use Rattle.search.specs.declared.SearchAnswer.the-variants as answer
-use Rattle.astar.specs.Call.{searchIn}
+use Rattle.known.specs.Workspace.{inRooms}
+use Rattle.astar.specs.Call.{searchIn, asking, buffers}
 use Rattle.astar.proofs.Returned.{returned-size, returned-accepted, returned-right}
-use Rattle.told.specs.declared.SearchTold.{SearchTold}
-use Rattle.told.specs.Searches.{routeTold, ofSearch, SearchingTold, searchTold, ofSearched}
-use Rattle.tishkolan.proofs.routes.tishkolan_route_verdict.Kinds as verdict-kinds
-use Rattle.tishkolan.proofs.routes.tishkolan_route_verdict.Reads as verdict
-use Rattle.tishkolan.proofs.routes.tishkolan_route_choice.Kinds as choice-kinds
-use Rattle.tishkolan.proofs.routes.tishkolan_route_choice.Reads as choice
-use Rattle.tishkolan.proofs.searches.tishkolan_astar.Kinds as astar-kinds
-use Rattle.tishkolan.proofs.searches.tishkolan_astar.Reads as astar
-use Rattle.tishkolan.proofs.searches.tishkolan_astar_with_limit.Kinds as limited-kinds
-use Rattle.tishkolan.proofs.searches.tishkolan_astar_with_limit.Reads as limited
+use Rattle.face.specs.declared.SearchTold.{SearchTold}
+use Rattle.face.specs.Searches.{routeTold, ofSearch, SearchingTold, searchTold, ofSearched}
+use Rattle.tishkolan.proofs.Calls.{RouteVerdict, judged, judgedIn, judgedUnder, RouteChoice, sent, homing, chosenIn, chosenUnder, ClaimBytes, AcceptedRoute, Astar, searchedIn, searchedUnder, returned, AstarWithLimit, limitedIn, limitedUnder, limitedReturned}
 
 -- ---- the checker
 
 -- `tishkolan_route_verdict` gives 0 exactly where demand 3 holds
-pub verdict-exactly : (κs : Lfts 4) (a : Dens κs verdict-kinds.ps) (z : resT verdict-kinds.r κs .Denot) (e : AtExit (endedOf 4 verdict-kinds.ps verdict-kinds.r) κs) → verdict.Post κs a z e
-    → let cells = now (a .0) in
-    let start = now (a .1 .0) in
-    let goal = now (a .1 .1 .0) in
-    let cost = a .1 .1 .1 .0 in
-    let flags = now (a .1 .1 .1 .1 .0) in
-    let count = a .1 .1 .1 .1 .1 .0 in
-    let rule = a .1 .1 .1 .1 .1 .1 .0 in
-    Bytes cells → Bytes start → Bytes goal → z ≡ 0 ↔ Demand3 cells start goal cost flags count rule
-verdict-exactly κs a z e p in-cells in-start in-goal = rw p (accepted-exactly _ _ _ _ _ _ _ in-cells in-start in-goal)
+pub verdict-exactly : (call : RouteVerdict) → ClaimBytes (judged call) → call .told ≡ 0 ↔ Demand3 (judged call) (judgedIn call) (judgedUnder call)
+verdict-exactly call bytes =
+    subst (λ (n : ℕ). n ≡ 0 ↔ Demand3 (judged call) (judgedIn call) (judgedUnder call)) (sym (call .meets)) (accepted-exactly _ _ _ _ _ _ _ (bytes .0) (bytes .1) (bytes .2))
 
 -- ---- the choice
 
-module _ (κs : Lfts 7) (a : Dens κs choice-kinds.ps) where
-  abbrev flags : List ℕ
-  flags = now (a .1 .1 .1 .1 .1 .1 .1 .1 .0)
+module _ (call : RouteChoice) (bytes : ClaimBytes (sent call)) where
+  -- the sent route is accepted, and the homing one
+  abbrev Sent : Type 0
+  Sent = Demand3 (sent call) (chosenIn call) (chosenUnder call)
 
-  abbrev count : ℕ
-  count = a .1 .1 .1 .1 .1 .1 .1 .1 .1 .0
+  abbrev Homing : Type 0
+  Homing = Demand3 (homing call) (chosenIn call) (chosenUnder call)
 
-  abbrev rule : ℕ
-  rule = a .1 .1 .1 .1 .1 .1 .1 .1 .1 .1 .0
+  -- `tishkolan_route_choice` gives 1 exactly where the sent route is accepted
+  pub choice-sent : call .told ≡ 1 ↔ Sent
+  choice-sent = subst (λ (n : ℕ). n ≡ 1 ↔ Sent) (sym (call .meets)) (sent-exactly _ _ _ _ _ _ _ _ _ _ _ (bytes .0) (bytes .1) (bytes .2))
 
-  -- the sent route, with its own ends and cost, is accepted
-  abbrev pub SentAccepted : Type 0
-  SentAccepted =
-      let sent = now (a .0) in
-      let start = now (a .1 .0) in
-      let goal = now (a .1 .1 .0) in
-      let cost = a .1 .1 .1 .0 in
-      Demand3 sent start goal cost flags count rule
+  -- 2 exactly where it is not, and the homing route is
+  pub choice-homing : ClaimBytes (homing call) → call .told ≡ 2 ↔ (Sent → ⊥) × Homing
+  choice-homing home =
+      subst (λ (n : ℕ). n ≡ 2 ↔ (Sent → ⊥) × Homing) (sym (call .meets)) (homing-exactly _ _ _ _ _ _ _ _ _ _ _ (bytes .0) (bytes .1) (bytes .2) (home .0) (home .1) (home .2))
 
-  abbrev pub SentBytes : Type 0
-  SentBytes = Bytes (now (a .0)) × Bytes (now (a .1 .0)) × Bytes (now (a .1 .1 .0))
-
-  -- the homing route is, with its own, under the same rule and layer
-  abbrev pub HomingAccepted : Type 0
-  HomingAccepted =
-      let homing = now (a .1 .1 .1 .1 .0) in
-      let departure = now (a .1 .1 .1 .1 .1 .0) in
-      let home = now (a .1 .1 .1 .1 .1 .1 .0) in
-      let price = a .1 .1 .1 .1 .1 .1 .1 .0 in
-      Demand3 homing departure home price flags count rule
-
-  abbrev pub HomingBytes : Type 0
-  HomingBytes = Bytes (now (a .1 .1 .1 .1 .0)) × Bytes (now (a .1 .1 .1 .1 .1 .0)) × Bytes (now (a .1 .1 .1 .1 .1 .1 .0))
-
-  module _ (z : resT choice-kinds.r κs .Denot) (e : AtExit (endedOf 7 choice-kinds.ps choice-kinds.r) κs) (p : choice.Post κs a z e) (sent : SentBytes) where
-    -- `tishkolan_route_choice` gives 1 exactly where the sent route is accepted
-    pub choice-sent : z ≡ 1 ↔ SentAccepted
-    choice-sent = rw p (sent-exactly _ _ _ _ _ _ _ _ _ _ _ (sent .0) (sent .1) (sent .2))
-
-    -- 2 exactly where it is not, and the homing route is
-    pub choice-homing : HomingBytes → z ≡ 2 ↔ (SentAccepted → ⊥) × HomingAccepted
-    choice-homing homing = rw p (homing-exactly _ _ _ _ _ _ _ _ _ _ _ (sent .0) (sent .1) (sent .2) (homing .0) (homing .1) (homing .2))
-
-    -- 0 exactly where neither is
-    pub choice-neither : HomingBytes → z ≡ 0 ↔ (SentAccepted → ⊥) × (HomingAccepted → ⊥)
-    choice-neither homing = rw p (neither-exactly _ _ _ _ _ _ _ _ _ _ _ (sent .0) (sent .1) (sent .2) (homing .0) (homing .1) (homing .2))
+  -- 0 exactly where neither is
+  pub choice-neither : ClaimBytes (homing call) → call .told ≡ 0 ↔ (Sent → ⊥) × (Homing → ⊥)
+  choice-neither home =
+      subst (λ (n : ℕ). n ≡ 0 ↔ (Sent → ⊥) × (Homing → ⊥)) (sym (call .meets)) (neither-exactly _ _ _ _ _ _ _ _ _ _ _ (bytes .0) (bytes .1) (bytes .2) (home .0) (home .1) (home .2))
 
 -- ---- what the search writes for C
-
--- a call of `tishkolan_route_verdict` that is handed these
-pub record Handed (κs : Lfts 4) (a : Dens κs verdict-kinds.ps) (cells start goal : List ℕ) (cost : ℕ) (flags : List ℕ) (count rule : ℕ) : Type 0 where
-  pub these-cells : now (a .0) ≡ cells
-  pub this-start : now (a .1 .0) ≡ start
-  pub this-goal : now (a .1 .1 .0) ≡ goal
-  pub this-cost : a .1 .1 .1 .0 ≡ cost
-  pub these-flags : now (a .1 .1 .1 .1 .0) ≡ flags
-  pub this-count : a .1 .1 .1 .1 .1 .0 ≡ count
-  pub this-rule : a .1 .1 .1 .1 .1 .1 .0 ≡ rule
-
--- a route that is accepted, said in three ways: its verdict is 0; demand 3 holds; and 0 is the only number that the contract of `tishkolan_route_verdict` lets through for it
-pub record AcceptedRoute (cells start goal : List ℕ) (cost : ℕ) (flags : List ℕ) (count rule : ℕ) : Type 0 where
-  pub verdict-nought : verdictOf cells start goal cost flags count rule ≡ 0
-  pub right : Demand3 cells start goal cost flags count rule
-  pub checked : (κs : Lfts 4) (a : Dens κs verdict-kinds.ps) (z : resT verdict-kinds.r κs .Denot) (e : AtExit (endedOf 4 verdict-kinds.ps verdict-kinds.r) κs)
-      → verdict.Post κs a z e → Handed κs a cells start goal cost flags count rule → z ≡ 0
 
 -- 0 is told of a route alone
 answered-found : (x : SearchAnswer) → ofSearch x .refusal .number ≡ 0 → (r : Route) × (x ≡ answer.Found r)
@@ -120,50 +63,35 @@ answered-found (answer.Refused r) h = absurd (refused-number r h)
 
 -- where 0 is told, the front of the output is as many cells as are told, and they are an accepted route at the cost that is told
 told-accepted : (start goal : List ℕ) (known waiting limit rule : ℕ) (flags : List ℕ) (count : ℕ) (w h l w′ h′ out : List ℕ) (z : SearchTold) → Bytes start → Bytes goal
-    → searchTold z w′ h′ out ≡ ofSearched (searchIn start goal known waiting limit rule flags count w h l) → z .refusal .number ≡ 0
+    → searchTold z w′ h′ out ≡ ofSearched (searchIn (asking start goal (inRooms known waiting) limit rule (layer flags count)) (buffers w h l)) → z .refusal .number ≡ 0
     → let cells = take (16 * z .cells) out in
-    (length cells ≡ 16 * z .cells) × AcceptedRoute cells start goal (z .cost) flags count rule
+    (length cells ≡ 16 * z .cells) × AcceptedRoute (claim cells start goal (z .cost)) (layer flags count) rule
 told-accepted start goal known waiting limit rule flags count w h l w′ h′ out z in-start in-goal p nought =
-    let x = searchIn start goal known waiting limit rule flags count w h l in
+    let x = searchIn (asking start goal (inRooms known waiting) limit rule (layer flags count)) (buffers w h l) in
     let told : z ≡ ofSearch (x .said) = ap (λ (t : SearchingTold). t .told) p in
     let wrote : out ≡ x .output = ap (λ (t : SearchingTold). t .output) p in
     let found = answered-found (x .said) (sym (ap (λ (t : SearchTold). t .refusal .number) told) ∙ nought) in
     let route : z ≡ routeTold (found .0) = told ∙ ap ofSearch (found .1) in
     let size = (λ i. length (take (16 * route i .cells) (wrote i))) ∙ returned-size start goal known waiting limit rule flags count l in-start in-goal (found .0) w h (found .1) in
-    let zero = (λ i. verdictOf (take (16 * route i .cells) (wrote i)) start goal (route i .cost) flags count rule) ∙ returned-accepted start goal known waiting limit rule flags count l in-start in-goal (found .0) w h (found .1) in
+    let zero = (λ i. verdictOf (claim (take (16 * route i .cells) (wrote i)) start goal (route i .cost)) (layer flags count) rule) ∙ returned-accepted start goal known waiting limit rule flags count l in-start in-goal (found .0) w h (found .1) in
     let right = returned-right start goal known waiting limit rule flags count l in-start in-goal (found .0) w h (found .1) in (
       size ∙ ap (λ (t : SearchTold). 16 * t .cells) (sym route),
       record {
         verdict-nought = zero;
-        right = subst (λ (t : SearchTold). Demand3 (take (16 * t .cells) out) start goal (t .cost) flags count rule) (sym route)
-            (subst (λ (m : List ℕ). Demand3 (take (16 * found .0 .cells) m) start goal (found .0 .cost) flags count rule) (sym wrote) right);
-        checked = λ κs a v e post b.
-            post ∙ (λ i. verdictOf (b .these-cells i) (b .this-start i) (b .this-goal i) (b .this-cost i) (b .these-flags i) (b .this-count i) (b .this-rule i)) ∙ zero;
+        right = subst (λ (t : SearchTold). Demand3 (claim (take (16 * t .cells) out) start goal (t .cost)) (layer flags count) rule) (sym route)
+            (subst (λ (m : List ℕ). Demand3 (claim (take (16 * found .0 .cells) m) start goal (found .0 .cost)) (layer flags count) rule) (sym wrote) right);
+        checked = λ call same in-layer under. call .meets ∙ (λ i. verdictOf (same i) (in-layer i) (under i)) ∙ zero;
       },
     )
 
 -- where `tishkolan_astar` tells refusal 0, it left as many cells in `out` as it tells, and they are accepted with this call's own start, goal, flags, count and rule, at the cost that it tells
-pub astar-accepted : (κs : Lfts 6) (a : Dens κs astar-kinds.ps) (z : resT astar-kinds.r κs .Denot) (e : AtExit (endedOf 6 astar-kinds.ps astar-kinds.r) κs) → astar.Post κs a z e
-    → let start = now (a .0) in
-    let goal = now (a .1 .0) in
-    let flags = now (a .1 .1 .0) in
-    let count = a .1 .1 .1 .0 in
-    let rule = a .1 .1 .1 .1 .0 in
-    let out = now (e .1 .1 .1 .1 .1 .1 .1 .1 .1 .0) in
-    let cells = take (16 * z .cells) out in
-    Bytes start → Bytes goal → z .refusal .number ≡ 0 → (length cells ≡ 16 * z .cells) × AcceptedRoute cells start goal (z .cost) flags count rule
-astar-accepted κs a z e p in-start in-goal nought =
-    told-accepted (now (a .0)) (now (a .1 .0)) _ _ _ (a .1 .1 .1 .1 .0) (now (a .1 .1 .0)) (a .1 .1 .1 .0) _ _ _ _ _ (now (e .1 .1 .1 .1 .1 .1 .1 .1 .1 .0)) z in-start in-goal p nought
+pub astar-accepted : (call : Astar) → Bytes (returned call .start) → Bytes (returned call .goal) → call .told .refusal .number ≡ 0
+    → (length (returned call .cells) ≡ 16 * call .told .cells) × AcceptedRoute (returned call) (searchedIn call) (searchedUnder call)
+astar-accepted call in-start in-goal nought =
+    told-accepted (returned call .start) (returned call .goal) _ _ _ (searchedUnder call) (searchedIn call .table) (searchedIn call .count) _ _ _ _ _ (now (call .exit .1 .1 .1 .1 .1 .1 .1 .1 .1 .0)) (call .told) in-start in-goal (call .meets) nought
 
--- and so of `tishkolan_astar_with_limit`, under any limit
-pub astar-with-limit-accepted : (κs : Lfts 6) (a : Dens κs limited-kinds.ps) (z : resT limited-kinds.r κs .Denot) (e : AtExit (endedOf 6 limited-kinds.ps limited-kinds.r) κs) → limited.Post κs a z e
-    → let start = now (a .0) in
-    let goal = now (a .1 .0) in
-    let flags = now (a .1 .1 .0) in
-    let count = a .1 .1 .1 .0 in
-    let rule = a .1 .1 .1 .1 .0 in
-    let out = now (e .1 .1 .1 .1 .1 .1 .1 .1 .1 .1 .0) in
-    let cells = take (16 * z .cells) out in
-    Bytes start → Bytes goal → z .refusal .number ≡ 0 → (length cells ≡ 16 * z .cells) × AcceptedRoute cells start goal (z .cost) flags count rule
-astar-with-limit-accepted κs a z e p in-start in-goal nought =
-    told-accepted (now (a .0)) (now (a .1 .0)) _ _ _ (a .1 .1 .1 .1 .0) (now (a .1 .1 .0)) (a .1 .1 .1 .0) _ _ _ _ _ (now (e .1 .1 .1 .1 .1 .1 .1 .1 .1 .1 .0)) z in-start in-goal p nought
+-- `tishkolan_astar_with_limit` does so too, under any limit
+pub astar-with-limit-accepted : (call : AstarWithLimit) → Bytes (limitedReturned call .start) → Bytes (limitedReturned call .goal) → call .told .refusal .number ≡ 0
+    → (length (limitedReturned call .cells) ≡ 16 * call .told .cells) × AcceptedRoute (limitedReturned call) (limitedIn call) (limitedUnder call)
+astar-with-limit-accepted call in-start in-goal nought =
+    told-accepted (limitedReturned call .start) (limitedReturned call .goal) _ _ _ (limitedUnder call) (limitedIn call .table) (limitedIn call .count) _ _ _ _ _ (now (call .exit .1 .1 .1 .1 .1 .1 .1 .1 .1 .1 .0)) (call .told) in-start in-goal (call .meets) nought

@@ -1,4 +1,4 @@
--- A call that fills a buffer and tells 0 was answered, and its answer stands at the front; the rest is as it was. For elements of any kind. Assumes nothing.
+-- A call that fills a buffer and tells 0 was answered, and its answer stands at the front; the rest is as it was. For elements of any kind.
 use mathlib.Core.Path.{_≡_, refl, sym, ap, _∙_}
 use mathlib.Core.Bool.{Bool, true, false, cond}
 use mathlib.Core.List.{List}
@@ -9,8 +9,8 @@ use Rattle.refusal.specs.declared.Refusal.the-variants.{NoRoom}
 use Rattle.refusal.specs.declared.Outcome.{Outcome}
 use Rattle.refusal.specs.declared.Outcome.the-variants as outcome
 use Rattle.refusal.proofs.Numbers.{refused-number}
-use Rattle.told.specs.declared.RefusalTold.{RefusalTold}
-use Rattle.told.specs.Told.{answered, toldOf, Filled, filled, fronted, fill}
+use Rattle.face.specs.declared.RefusalTold.{RefusalTold}
+use Rattle.face.specs.Told.{answered, toldOf, Filled, filled, fronted, fill}
 
 module _ {A : Type 0} (t : RefusalTold) (l out last : List A) (nought : t .number ≡ 0) where
   pub front-filled : (o : Outcome) → filled t last ≡ fill o l out → (o ≡ outcome.Answered) × (last ≡ fronted l out)

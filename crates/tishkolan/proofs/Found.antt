@@ -1,4 +1,4 @@
--- How many cells are found around a cell and below it, refused or not. Assumes nothing.
+-- A cell has 14 neighbours and 8 children in its answers, refused or not.
 use mathlib.Core.Path.{_≡_, refl}
 use mathlib.Core.Bool.{Bool, true, false, cond}
 use lib.Dec.{eqb}
@@ -8,7 +8,8 @@ use Rattle.refusal.specs.declared.Refusal.the-variants.{NoChildren}
 use Rattle.lattice.specs.declared.ParityAnswer.{ParityAnswer}
 use Rattle.lattice.specs.declared.ParityAnswer.the-variants.{Is, Refused}
 use Rattle.lattice.specs.Lattice.{parityOf, neighborSteps, hasNeighborRoom, childSteps, hasChildRoom}
-use Rattle.cell.specs.Cell.{resolutionOf, coordOf, nearCells, neighborsIn, neighborsBy, neighborsOf, childCells, noChildren, childrenIn, childrenBy, childrenOf}
+use Rattle.cell.specs.Cell.{resolutionOf, coordOf, nearCells, neighborsOf, childCells, noChildren, childrenOf}
+use Rattle.cell.proofs.Split.{neighborsIn, neighborsBy, childrenIn, childrenBy}
 
 neighbors-in : (roomy : Bool) (c : Cell) → length (neighborsIn roomy c .cells) ≡ 14
 unfolding nearCells neighborSteps

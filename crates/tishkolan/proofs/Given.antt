@@ -1,4 +1,4 @@
--- What C hands over as a cell, or as two, once its bytes are read: what is told is told of the cells, or of the refusal. Assumes nothing.
+-- What C hands over as a cell, or as two, once its bytes are read: what is told is told of the cells, or of the refusal.
 use mathlib.Core.Path.{_≡_, refl, sym, ap, _∙_}
 use mathlib.Core.List.{List}
 use Prim.Native.Nat.{ℕ}
@@ -6,10 +6,10 @@ use Rattle.refusal.specs.declared.Cell.{Cell}
 use Rattle.refusal.specs.declared.Refusal.{Refusal}
 use Rattle.cell.specs.declared.CellAnswer.{CellAnswer}
 use Rattle.cell.specs.declared.CellAnswer.the-variants.{Is, Refused}
-use Rattle.cell.specs.Bytes.{fromBytesOf}
+use Rattle.cell.specs.Bytes.{fromBytesOf, byCell, onCell, onCells}
 use Rattle.tishkolan.specs.declared.cells.PairAnswer.{PairAnswer}
 use Rattle.tishkolan.specs.declared.cells.PairAnswer.the-variants as pair
-use Rattle.tishkolan.specs.Cells.{byCell, onCell, onCells, pairOf}
+use Rattle.tishkolan.specs.Inner.Cells.{pairOf}
 
 pub on-cell : {A : Type 0} (f : Refusal → A) (g : Cell → A) (l : List ℕ) {a b : CellAnswer} → a ≡ fromBytesOf l → a ≡ b → byCell f g b ≡ onCell f g l
 on-cell f g l read known = ap (byCell f g) (sym known ∙ read)

@@ -1,5 +1,5 @@
 -- After any chain of C calls on a layer, refused ones among them, what get tells is what the last call that touched the cell left of it: `flags-get-after-calls`, `values-get-after-calls`. Each
--- call is one step of a history (crates/history), by its own contract. Assumes nothing.
+-- call is one step of a history (crates/history), by its own contract.
 use mathlib.Core.Path.{_≡_, refl, sym, ap, ap₂, _∙_}
 use mathlib.Core.List.{List}
 use Prim.Native.Nat.{ℕ, _-_}
@@ -7,30 +7,31 @@ use denote.Ref.{now}
 use Rattle.refusal.specs.declared.Cell.{Cell}
 use Rattle.cell.specs.declared.CellAnswer.the-variants as cell
 use Rattle.cell.specs.Bytes.{fromBytesOf}
-use Rattle.layer.specs.Layer.{Held, nothing, held}
+use Rattle.table.specs.Records.{Held, nothing, held, Layer, layer}
 use Rattle.layer.specs.Calls.{ofHeld, heldIn}
-use Rattle.layer.specs.Changes.{Changed, changed, saying, setIn, removeIn, clearIn, countBy, leftBy}
+use Rattle.general.specs.Changed.{Changed, changed, saying}
+use Rattle.layer.specs.Changes.{setIn, removeIn, clearIn, countBy, leftBy}
 use Rattle.layer.specs.declared.HeldAnswer.{HeldAnswer}
 use Rattle.layer.specs.declared.HeldAnswer.the-variants as kept
-use Rattle.layer.specs.declared.CountAnswer.{CountAnswer}
-use Rattle.layer.specs.declared.CountAnswer.the-variants as count
+use Rattle.refusal.specs.declared.CountAnswer.{CountAnswer}
+use Rattle.refusal.specs.declared.CountAnswer.the-variants as count
 use Rattle.aggregate.specs.declared.Aggregation.{Aggregation}
 use Rattle.rollup.specs.Rollup.{rollupIn}
 use Rattle.survey.specs.declared.LoadAnswer.{LoadAnswer}
 use Rattle.survey.specs.declared.LoadAnswer.the-variants as load-answer
 use Rattle.survey.specs.Survey.{loadOf}
-use Rattle.told.specs.declared.CountTold.{CountTold}
-use Rattle.told.specs.declared.KeptTold.{KeptTold}
-use Rattle.told.specs.declared.LoadTold.{LoadTold}
-use Rattle.told.specs.Layers.{ofCount}
-use Rattle.told.specs.Surveys.{LoadingTold, loadingTold, ofLoad, ofLoading}
-use Rattle.tishkolan.specs.declared.aggregates.Asked.{Asked}
-use Rattle.tishkolan.specs.declared.aggregates.Asked.the-variants.{For, Unknown}
-use Rattle.tishkolan.specs.Aggregates.{aggregationOf, noRollup, rollupBy, rollupAsked}
-use Rattle.history.specs.History.{Kind, flagLayer, valueLayer, widthOf, Layer, layer, Step, set, remove, clear, load, rollup, AllOfBytes, IsLayer, loadedBy, afterCount, afterRemove, afterLoad, after, afterAll, lastLeft}
+use Rattle.face.specs.declared.CountTold.{CountTold}
+use Rattle.face.specs.declared.KeptTold.{KeptTold}
+use Rattle.face.specs.declared.LoadTold.{LoadTold}
+use Rattle.face.specs.Layers.{ofCount}
+use Rattle.face.specs.Surveys.{LoadingTold, loadingTold, ofLoad, ofLoading}
+use Rattle.face.specs.declared.Asked.{Asked}
+use Rattle.face.specs.declared.Asked.the-variants.{For, Unknown}
+use Rattle.face.specs.Aggregates.{aggregationOf, noRollup, rollupBy, rollupAsked}
+use Rattle.history.specs.History.{Kind, flagLayer, valueLayer, widthOf, Step, set, remove, clear, load, rollup, AllOfBytes, IsLayer, loadedBy, afterCount, afterRemove, afterLoad, after, afterAll, lastLeft}
 use Rattle.history.proofs.History.{get-after-history}
-use Rattle.tishkolan.specs.LayerAnswers.{heldTold}
-use Rattle.tishkolan.proofs.LayerCalls.{FlagsGet, ValuesGet, Handed, Calls, no-calls, set-flags, remove-flags, clear-flags, load-flags, set-value, remove-value, clear-values, load-values, rollup-values, rollup-unknown}
+use Rattle.face.specs.LayerAnswers.{heldTold}
+use Rattle.tishkolan.proofs.Calls.{FlagsGet, ValuesGet, Handed, Calls, no-calls, set-flags, remove-flags, clear-flags, load-flags, set-value, remove-value, clear-values, load-values, rollup-values, rollup-unknown}
 use Rattle.tishkolan.proofs.LayerAnswers.{keptBy, flags-kept, value-kept, flags-removed, values-removed}
 
 -- ---- the count that is told is the count that the step leaves

@@ -1,5 +1,5 @@
 -- The points of the scope document's section "Known points" that are marked P, in its order, as one table: each row is an equation of two values that compute, the left one of what
--- the contracts of the C calls cite. Assumes nothing.
+-- the contracts of the C calls cite.
 use mathlib.Core.Path.{_≡_, refl}
 use mathlib.Core.Bool.{true, false}
 use mathlib.Core.List.{List, [], _∷_, _++_, flatMap}
@@ -14,18 +14,20 @@ use Rattle.lattice.specs.declared.ParityAnswer.the-variants as parity
 use Rattle.lattice.specs.declared.CoordAnswer.the-variants.{At, Refused}
 use Rattle.lattice.specs.Lattice.{at, isLatticePoint, parityOf, parentOf}
 use Rattle.snap.specs.Snap.{point, snapOf}
-use Rattle.refusal.specs.Table.{rawOf}
+use Rattle.refusal.specs.Refusals.{rawOf}
 use Rattle.words.specs.Word.{lowDigits, number, ordered, bytesOf, word}
 use Rattle.cell.specs.Cell.{packed}
 use Rattle.cell.specs.Bytes.{cellBytes}
-use Rattle.listing.specs.Listing.{cellsLaid}
+use Rattle.cell_list.specs.Listing.{cellsLaid}
 use Rattle.search.specs.Plan.{searchOf}
-use Rattle.astar.specs.Call.{hasRooms, searchIn}
-use Rattle.told.specs.declared.RefusalTold.{RefusalTold}
-use Rattle.told.specs.declared.SearchTold.{SearchTold}
-use Rattle.told.specs.Told.{filled}
-use Rattle.told.specs.Searches.{SearchingTold, searchTold, ofSearched}
-use Rattle.tishkolan.specs.Cells.{newTold}
+use Rattle.known.specs.Workspace.{inRooms}
+use Rattle.astar.specs.Call.{hasRooms, searchIn, asking, buffers}
+use Rattle.face.specs.declared.RefusalTold.{RefusalTold}
+use Rattle.face.specs.declared.SearchTold.{SearchTold}
+use Rattle.face.specs.Told.{filled}
+use Rattle.face.specs.Searches.{SearchingTold, searchTold, ofSearched}
+use Rattle.face.specs.Cells.{newTold}
+use Rattle.table.specs.Records.{layer}
 
 abbrev nought : Float
 nought = fin false 0 (pos 0)
@@ -34,8 +36,8 @@ abbrev half : Float
 half = fin false 1 (negsuc 0)
 
 -- a refusal of which nothing but the number is told; 0 is none
-abbrev bare : ℕ → RefusalTold
-bare n = record { number = n; room = 0; x = pos 0; y = pos 0; z = pos 0 }
+abbrev carryingNothing : ℕ → RefusalTold
+carryingNothing n = record { number = n; room = 0; x = pos 0; y = pos 0; z = pos 0 }
 
 -- ---- searches
 
@@ -45,17 +47,17 @@ plain x y z = 0 ∷ 0 ∷ 0 ∷ z ∷ 0 ∷ 0 ∷ 0 ∷ y ∷ 0 ∷ 0 ∷ 0 ∷ 
 
 -- from (0,0,0) to (2,2,0) with no flags kept, in rooms of 32 cells and 32 entries, with an output of 4 cells; each lent byte is 9 at entry
 abbrev searching : ℕ → ℕ → SearchingTold
-searching rule limit = ofSearched (searchIn (plain 0 0 0) (plain 2 2 0) 32 32 limit rule [] 0 (replicate 1472 9) (replicate 1024 9) (replicate 64 9))
+searching rule limit = ofSearched (searchIn (asking (plain 0 0 0) (plain 2 2 0) (inRooms 32 32) limit rule (layer [] 0)) (buffers (replicate 1472 9) (replicate 1024 9) (replicate 64 9)))
 
 -- what C is told; both workspaces are zeros at exit
 abbrev leaves : SearchTold → List ℕ → SearchingTold
 leaves t out = searchTold t (replicate 1472 0) (replicate 1024 0) out
 
 abbrev routeOf : ℕ → ℕ → ℕ → SearchTold
-routeOf cells cost expansions = record { refusal = bare 0; cells = cells; cost = cost; expansions = expansions; limit = 0; «start_high» = 0; «start_low» = 0; «goal_high» = 0; «goal_low» = 0 }
+routeOf cells cost expansions = record { refusal = carryingNothing 0; cells = cells; cost = cost; expansions = expansions; limit = 0; «start_high» = 0; «start_low» = 0; «goal_high» = 0; «goal_low» = 0 }
 
 abbrev beyond : ℕ → ℕ → SearchTold
-beyond expansions limit = record { refusal = bare 7; cells = 0; cost = 0; expansions = expansions; limit = limit; «start_high» = 0; «start_low» = 0; «goal_high» = 0; «goal_low» = 0 }
+beyond expansions limit = record { refusal = carryingNothing 7; cells = 0; cost = 0; expansions = expansions; limit = limit; «start_high» = 0; «start_low» = 0; «goal_high» = 0; «goal_low» = 0 }
 
 pub record SearchCalls (rule : ℕ) : Type 0 where
   -- the route through (1,1,1), its cost and its expansions
@@ -78,7 +80,7 @@ pub record KnownPoints : Type 0 where
   -- fields (0,3), (1,-1,1), exponent 28, flags 165: 00000001 FFFFFFFF 00000001 0A5C0300; the byte behind them stays
   pub bytes :
       newTold 0 3 (at (pos 1) (negsuc 0) (pos 1)) 28 165 (replicate 17 9)
-      ≡ filled (bare 0) (0x00 ∷ 0x00 ∷ 0x00 ∷ 0x01 ∷ 0xFF ∷ 0xFF ∷ 0xFF ∷ 0xFF ∷ 0x00 ∷ 0x00 ∷ 0x00 ∷ 0x01 ∷ 0x0A ∷ 0x5C ∷ 0x03 ∷ 0x00 ∷ 9 ∷ [])
+      ≡ filled (carryingNothing 0) (0x00 ∷ 0x00 ∷ 0x00 ∷ 0x01 ∷ 0xFF ∷ 0xFF ∷ 0xFF ∷ 0xFF ∷ 0x00 ∷ 0x00 ∷ 0x00 ∷ 0x01 ∷ 0x0A ∷ 0x5C ∷ 0x03 ∷ 0x00 ∷ 9 ∷ [])
   -- (0,1,0) mixed
   pub mixed : parityOf (at (pos 0) (pos 1) (pos 0)) ≡ parity.Refused (InvalidParity (at (pos 0) (pos 1) (pos 0)))
   -- parent coordinates: (4,2,2) to (1,1,1); (-2,0,0) to (-2,0,0); (-3,1,-1) to (-2,0,0)

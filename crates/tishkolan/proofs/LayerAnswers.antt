@@ -1,5 +1,5 @@
 -- When the C calls set and remove are answered and when they are refused, with what C is told, over the calls' own contracts: `flags-set-answers` and its like; a refusal changes no byte; and
--- `flags-room-serves-again`, over a remove and the set after it. Assumes nothing.
+-- `flags-room-serves-again`, over a remove and the set after it.
 use mathlib.Core.Path.{_≡_, refl, sym, ap, ap₂, _∙_}
 use mathlib.Core.Bool.{Bool, true, false, cond}
 use mathlib.Core.List.{List}
@@ -14,19 +14,20 @@ use Rattle.refusal.specs.declared.Refusal.the-variants.{BadList}
 use Rattle.words.specs.Word.{Bytes}
 use Rattle.cell.specs.declared.CellAnswer.the-variants as cell
 use Rattle.cell.specs.Bytes.{cellAt, fromBytesOf}
-use Rattle.layer.specs.Layer.{Held, nothing, held, roomFor, rowsOf, heldOf, isSound}
-use Rattle.layer.specs.Laws.{sound-room}
+use Rattle.table.specs.Records.{Held, nothing, held, roomFor, rowsOf, heldOf, isSound}
+use Rattle.table.proofs.Laws.{sound-room}
 use Rattle.layer.specs.Calls.{ofFlags, ofValue}
-use Rattle.layer.specs.Changes.{Changed, changed, saying, setIn, removeIn}
+use Rattle.general.specs.Changed.{Changed, changed, saying}
+use Rattle.layer.specs.Changes.{setIn, removeIn}
 use Rattle.layer.specs.declared.HeldAnswer.{HeldAnswer}
 use Rattle.layer.specs.declared.HeldAnswer.the-variants as kept
-use Rattle.layer.specs.declared.CountAnswer.{CountAnswer}
-use Rattle.layer.proofs.Answers.{set-bad-list, set-bad-layer, set-new, set-no-room, set-again, remove-bad-list, remove-bad-layer, remove-kept, remove-missing, room-serves-again}
-use Rattle.told.specs.declared.CountTold.{CountTold}
-use Rattle.told.specs.declared.KeptTold.{KeptTold}
-use Rattle.told.specs.Layers.{ofCount, ofFlagsKept, ofValueKept, missingTold, noKept}
-use Rattle.tishkolan.specs.LayerAnswers.{tellingCount, tellingKept, LayerCase, no-cell, no-layer, new-cell, full-layer, kept-cell, setTold, removeTold}
-use Rattle.tishkolan.proofs.LayerCalls.{FlagsSet, FlagsRemove, ValuesSet, ValuesRemove}
+use Rattle.refusal.specs.declared.CountAnswer.{CountAnswer}
+use Rattle.layer.proofs.CallAnswers.{set-bad-list, set-bad-layer, set-new, set-no-room, set-again, remove-bad-list, remove-bad-layer, remove-kept, remove-missing, room-serves-again}
+use Rattle.face.specs.declared.CountTold.{CountTold}
+use Rattle.face.specs.declared.KeptTold.{KeptTold}
+use Rattle.face.specs.Layers.{ofCount, ofFlagsKept, ofValueKept, missingTold, noKept}
+use Rattle.face.specs.LayerAnswers.{tellingCount, tellingKept, LayerCase, no-cell, no-layer, new-cell, full-layer, kept-cell, setTold, removeTold}
+use Rattle.tishkolan.proofs.Calls.{FlagsSet, FlagsRemove, ValuesSet, ValuesRemove}
 
 -- there is no other case
 pub layer-case : (w : ℕ) (l : List ℕ) (n : ℕ) (m : List ℕ) → LayerCase w l n m

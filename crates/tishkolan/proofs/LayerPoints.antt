@@ -1,4 +1,4 @@
--- A chain of C calls, computed: into a flag table with room for one record one cell is set, and another is refused. So the theorems over chains of calls speak of something. Assumes nothing.
+-- A chain of C calls, computed: into a flag table with room for one record one cell is set, and another is refused. So the theorems over chains of calls speak of something.
 use mathlib.Core.Path.{refl, sym, ap}
 use mathlib.Core.List.{List, [], _∷_, _++_}
 use Prim.Native.Nat.{ℕ}
@@ -6,12 +6,13 @@ use lib.ListN.{replicate}
 use base.Fml.{GName}
 use contract.Lifetimes.{Lfts}
 use denote.Ref.{RefT}
-use Rattle.layer.specs.Changes.{saying}
+use Rattle.general.specs.Changed.{saying}
 use Rattle.layer.proofs.Points.{first-answered, second-refused}
-use Rattle.told.specs.Layers.{ofCount}
-use Rattle.history.specs.History.{flagLayer, layer, set}
-use Rattle.tishkolan.specs.LayerAnswers.{tellingCount}
-use Rattle.tishkolan.proofs.LayerCalls.{FlagsSet, Calls, no-calls, set-flags}
+use Rattle.face.specs.Layers.{ofCount}
+use Rattle.history.specs.History.{flagLayer, set}
+use Rattle.face.specs.LayerAnswers.{tellingCount}
+use Rattle.tishkolan.proofs.Calls.{FlagsSet, Calls, no-calls, set-flags}
+use Rattle.table.specs.Records.{layer}
 
 -- a flag record of the cell whose 16 bytes are all b
 abbrev flagged : ℕ → ℕ → List ℕ

@@ -5,7 +5,7 @@ pub mod Found
 pub mod OneAnswer
 pub mod OneAnswerCells
 pub mod OneAnswerLayers
-pub mod LayerCalls
+pub mod Calls
 pub mod LayerAnswers
 pub mod Histories
 pub mod LayerPoints
@@ -22,3 +22,5 @@ pub mod Parents
 pub mod Distances
 pub mod Packing
 pub mod Filling
+pub mod Theorems
+pub mod CallPoints

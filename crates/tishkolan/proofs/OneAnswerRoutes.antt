@@ -1,13 +1,10 @@
--- Two verdicts that meet the contract agree, and so do two choices: what is handed to this very call decides them, and nothing else. Assumes nothing.
+-- Two verdicts that meet the contract agree, and so do two choices: what is handed to this very call decides them, and nothing else.
 use mathlib.Core.Path.{sym, _∙_}
-use Rattle.refusal.specs.OneAnswer.{OneAnswer}
-use Rattle.tishkolan.proofs.routes.tishkolan_route_verdict.Kinds as route-verdict-kinds
-use Rattle.tishkolan.proofs.routes.tishkolan_route_verdict.Reads as route-verdict
-use Rattle.tishkolan.proofs.routes.tishkolan_route_choice.Kinds as route-choice-kinds
-use Rattle.tishkolan.proofs.routes.tishkolan_route_choice.Reads as route-choice
+use Rattle.general.specs.OneAnswer.{OneAnswer}
+use Rattle.tishkolan.proofs as here
 
-pub route-verdict-one : OneAnswer 4 route-verdict-kinds.ps route-verdict-kinds.r route-verdict.Post
+pub route-verdict-one : OneAnswer 4 here.routes.tishkolan_route_verdict.Kinds.ps here.routes.tishkolan_route_verdict.Kinds.r here.routes.tishkolan_route_verdict.Reads.Post
 route-verdict-one κs a z z′ e e′ p q = p ∙ sym q
 
-pub route-choice-one : OneAnswer 7 route-choice-kinds.ps route-choice-kinds.r route-choice.Post
+pub route-choice-one : OneAnswer 7 here.routes.tishkolan_route_choice.Kinds.ps here.routes.tishkolan_route_choice.Kinds.r here.routes.tishkolan_route_choice.Reads.Post
 route-choice-one κs a z z′ e e′ p q = p ∙ sym q

@@ -1,4 +1,4 @@
--- Places as the code reads and stores them. Assumes nothing.
+-- Places as the code reads and stores them.
 use mathlib.Core.Path.{_≡_, refl}
 use mathlib.Core.Bool.{Bool, true, false}
 use mathlib.Core.List.{List}
@@ -13,8 +13,9 @@ use mir.Facts.{toZ-ofZ}
 use Rattle.refusal.specs.declared.Coord.{Coord}
 use Rattle.lattice.specs.declared.ParityAnswer.{ParityAnswer}
 use Rattle.lattice.specs.declared.ParityAnswer.the-variants.{Is, Refused}
-use Rattle.lattice.specs.Lattice.{at, parityOf, neighborSteps, neighborPlaces, hasNeighborRoom, neighborsIn, neighborsBy, neighborsOf, childSteps, childPlaces, hasChildRoom, childrenIn, childrenBy, childrenOf}
-use Rattle.tishkolan.specs.Points.{triple}
+use Rattle.lattice.specs.Lattice.{at, parityOf, neighborSteps, neighborPlaces, hasNeighborRoom, neighborsOf, childSteps, childPlaces, hasChildRoom, childrenOf}
+use Rattle.lattice.proofs.Split.{neighborsIn, neighborsBy, childrenIn, childrenBy}
+use Rattle.face.specs.Points.{triple}
 
 -- a place is that of its coordinates' bits
 pub kept-place : {x y z : ℤ} → SFits w32 x → SFits w32 y → SFits w32 z → at (toZ w32 (ofZ w32 x)) (toZ w32 (ofZ w32 y)) (toZ w32 (ofZ w32 z)) ≡ at x y z

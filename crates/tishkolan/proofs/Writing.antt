@@ -1,6 +1,6 @@
 -- A loop that stores items of k elements each, one after another, at the front of a lent list: after i turns the elements of the first i items stand there, and behind them
--- the list as it was. Stated for any items and any k. Assumes nothing.
-use mathlib.Core.Path.{_≡_, refl, sym, ap, _∙_}
+-- the list as it was. Stated for any items and any k.
+use mathlib.Core.Path.{_≡_, sym, ap, _∙_}
 use mathlib.Core.Bool.{Bool, true, false, cond}
 use mathlib.Core.List.{List, [], _∷_, _++_, append-nil, flatMap}
 use Prim.Native.Nat.{ℕ, _+_, _*_, _≤_, _<_}
@@ -16,9 +16,9 @@ use Rattle.refusal.specs.declared.Refusal.the-variants.{NoRoom}
 use Rattle.refusal.specs.declared.Room.the-variants.{Output}
 use Rattle.refusal.specs.declared.Outcome.{Outcome}
 use Rattle.refusal.specs.declared.Outcome.the-variants.{Answered, Refused}
-use Rattle.layer.specs.Bytes.{flatMap-append}
-use Rattle.told.specs.declared.RefusalTold.{RefusalTold}
-use Rattle.told.specs.Told.{answered, toldOf, filled, fronted, fill}
+use Rattle.general.proofs.Lists.{flatMap-append}
+use Rattle.face.specs.declared.RefusalTold.{RefusalTold}
+use Rattle.face.specs.Told.{answered, toldOf, filled, fronted, fill}
 
 module _ {A B : Type 0} (f : A → List B) where
   flatMap-one : (a : A) → flatMap f (a ∷ []) ≡ f a

@@ -1,4 +1,1 @@
-pub mod Points
-pub mod Cells
-pub mod Aggregates
-pub mod LayerAnswers
+pub mod Inner

@@ -1,21 +1,16 @@
 // The aggregates and the rollup of a value layer for C, which asks for one by its number.
 ghost use mathlib.Core.Path.{_≡_};
-ghost use Rattle.layer.specs.Changes.{changed, saying};
-ghost use Rattle.tishkolan.specs.Aggregates.{aggregationOf, ofAggregated, ofAggregate, noAggregation, aggregateTold, noRollup, rollupAsked};
-ghost use Rattle.told.specs.Layers.{ofCount};
+ghost use Rattle.general.specs.Changed.{changed, saying};
+ghost use Rattle.face.specs.Aggregates.{aggregationOf, ofAggregated, ofAggregate, noAggregation, aggregateTold, noRollup, rollupAsked};
+ghost use Rattle.face.specs.Layers.{ofCount};
 use aggregate::AggregateAnswer;
 use aggregate::Aggregated;
 use aggregate::Aggregation;
-use layer::CountAnswer;
+use face::Asked;
+use face::BitsTold;
+use face::CountTold;
+use refusal::CountAnswer;
 use refusal::Refusal;
-use told::BitsTold;
-use told::CountTold;
-
-// What C asks for.
-enum Asked {
-    For(Aggregation),
-    Unknown,
-}
 
 fn aggregation_of(how: u32) -> Asked
     ensures { λ r. ⌜ r ≡ aggregationOf how ⌝ }
@@ -35,9 +30,9 @@ fn of_aggregated(a: Aggregated) -> BitsTold
     ensures { λ t. ⌜ t ≡ ofAggregated a ⌝ }
 {
     match a {
-        Aggregated::Number(x) => told::bits(float::bits(x)),
-        Aggregated::NoValues => told::no_bits(Refusal::NoValues),
-        Aggregated::HasNan => told::no_bits(Refusal::HasNan),
+        Aggregated::Number(x) => face::bits(float::bits(x)),
+        Aggregated::NoValues => face::no_bits(Refusal::NoValues),
+        Aggregated::HasNan => face::no_bits(Refusal::HasNan),
     }
 }
 
@@ -46,7 +41,7 @@ fn of_aggregate(a: AggregateAnswer) -> BitsTold
 {
     match a {
         AggregateAnswer::Found(found) => of_aggregated(found),
-        AggregateAnswer::Refused(r) => told::no_bits(r),
+        AggregateAnswer::Refused(r) => face::no_bits(r),
     }
 }
 
@@ -54,13 +49,13 @@ fn of_aggregate(a: AggregateAnswer) -> BitsTold
 fn no_aggregation(table: &[u8], count: usize, cells: &[u8]) -> BitsTold
     ensures { λ t. ⌜ t ≡ noAggregation (now (table .entry)) count (now (cells .entry)) ⌝ }
 {
-    if cells.len() % 16 != 0 {
-        return told::no_bits(Refusal::BadList);
+    if cells.len() % cell::CELL_WIDTH != 0 {
+        return face::no_bits(Refusal::BadList);
     }
-    if layer::is_sound(table, 24, count) {
-        told::no_bits(Refusal::OutOfRange)
+    if table::is_sound(table, table::VALUE_WIDTH, count) {
+        face::no_bits(Refusal::OutOfRange)
     } else {
-        told::no_bits(Refusal::BadLayer)
+        face::no_bits(Refusal::BadLayer)
     }
 }
 
@@ -90,7 +85,7 @@ pub extern "C" fn tishkolan_values_aggregate(
 fn no_rollup(fine: &[u8], count: usize) -> CountAnswer
     ensures { λ r. ⌜ r ≡ noRollup (now (fine .entry)) count ⌝ }
 {
-    if layer::is_sound(fine, 24, count) {
+    if table::is_sound(fine, table::VALUE_WIDTH, count) {
         CountAnswer::Refused(Refusal::OutOfRange)
     } else {
         CountAnswer::Refused(Refusal::BadLayer)
@@ -118,5 +113,5 @@ pub extern "C" fn tishkolan_values_rollup(
 ) -> CountTold
     ensures { λ t. ⌜ changed t (now (coarse .exit)) ≡ saying (ofCount given) (rollupAsked (now (fine .entry)) count how (now (coarse .entry))) ⌝ }
 {
-    told::layers::of_count(given, rollup_asked(fine, count, how, coarse))
+    face::layers::of_count(given, rollup_asked(fine, count, how, coarse))
 }

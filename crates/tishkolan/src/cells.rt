@@ -3,21 +3,24 @@ ghost use mathlib.Core.Path.{_≡_};
 ghost use Prim.Native.Nat.{_≤_};
 ghost use lib.ListN.{length};
 ghost use Rattle.lattice.specs.Lattice.{at};
-ghost use Rattle.told.specs.Told.{filled, fronted};
-ghost use Rattle.tishkolan.specs.Cells.{pairOf, orderNumber, fillCell, cellsBytes, newTold, neighborsTold, childrenTold, parentTold, ancestorTold, noFields, fieldsOf, fieldsTold, latticeCoordTold, isPlainTold, compareTold, ofBetween, betweenTold, distanceTold, manhattanTold};
+ghost use Rattle.face.specs.Told.{filled, fronted};
+ghost use Rattle.tishkolan.specs.Inner.Cells.{pairOf};
+ghost use Rattle.face.specs.Cells.{orderNumber, fillCell, cellsBytes, newTold, neighborsTold, childrenTold, parentTold, ancestorTold, noFields};
+ghost use Rattle.face.specs.Cells.{fieldsOf, fieldsTold, latticeCoordTold, isPlainTold, compareTold, ofBetween, betweenTold, distanceTold};
+ghost use Rattle.face.specs.Cells.{manhattanTold};
 use cell::Between;
 use cell::CellAnswer;
 use cell::Order;
+use face::BitsTold;
+use face::CoordTold;
+use face::FieldsTold;
+use face::NumberTold;
+use face::RefusalTold;
 use lattice::CoordAnswer;
 use refusal::Cell;
 use refusal::Outcome;
 use refusal::Refusal;
 use refusal::Room;
-use told::BitsTold;
-use told::CoordTold;
-use told::FieldsTold;
-use told::NumberTold;
-use told::RefusalTold;
 
 // The two cells that C hands over.
 struct Pair {
@@ -55,13 +58,13 @@ fn put_cell(out: &mut [u8], a: CellAnswer) -> RefusalTold
     ensures { λ t. ⌜ filled t (now (out .exit)) ≡ fillCell (now (out .entry)) a ⌝ }
 {
     match a {
-        CellAnswer::Refused(r) => told::told(r),
+        CellAnswer::Refused(r) => face::told(r),
         CellAnswer::Is(c) => {
-            if out.len() < 16 {
-                return told::told(Refusal::NoRoom(Room::Output));
+            if out.len() < cell::CELL_WIDTH {
+                return face::told(Refusal::NoRoom(Room::Output));
             }
             cell::write_at(out, 0, c);
-            told::answered()
+            face::answered()
         }
     }
 }
@@ -104,7 +107,7 @@ pub extern "C" fn tishkolan_cell_parent(cell: &[u8], out: &mut [u8]) -> RefusalT
 {
     let given = cell::from_bytes(cell);
     match given {
-        CellAnswer::Refused(r) => told::told(r),
+        CellAnswer::Refused(r) => face::told(r),
         CellAnswer::Is(c) => put_cell(out, cell::parent(c)),
     }
 }
@@ -119,7 +122,7 @@ pub extern "C" fn tishkolan_cell_ancestor(
 {
     let given = cell::from_bytes(cell);
     match given {
-        CellAnswer::Refused(r) => told::told(r),
+        CellAnswer::Refused(r) => face::told(r),
         CellAnswer::Is(c) => put_cell(out, cell::ancestor(c, resolution)),
     }
 }
@@ -129,7 +132,7 @@ fn fields(c: Cell) -> FieldsTold
     ensures { λ t. ⌜ t ≡ fieldsOf c ⌝ }
 {
     FieldsTold {
-        refusal: told::answered(),
+        refusal: face::answered(),
         frame: cell::frame(c),
         resolution: cell::resolution(c),
         exponent: cell::exponent(c),
@@ -145,7 +148,7 @@ fn no_fields(r: Refusal) -> FieldsTold
     ensures { λ t. ⌜ t ≡ noFields r ⌝ }
 {
     FieldsTold {
-        refusal: told::told(r),
+        refusal: face::told(r),
         frame: 0,
         resolution: 0,
         exponent: 0,
@@ -175,8 +178,8 @@ pub extern "C" fn tishkolan_cell_lattice_coord(cell: &[u8]) -> CoordTold
 {
     let given = cell::from_bytes(cell);
     match given {
-        CellAnswer::Refused(r) => told::of_coord(CoordAnswer::Refused(r)),
-        CellAnswer::Is(c) => told::of_coord(cell::lattice_coord(c)),
+        CellAnswer::Refused(r) => face::of_coord(CoordAnswer::Refused(r)),
+        CellAnswer::Is(c) => face::of_coord(cell::lattice_coord(c)),
     }
 }
 
@@ -187,12 +190,12 @@ pub extern "C" fn tishkolan_cell_is_plain(cell: &[u8]) -> NumberTold
 {
     let given = cell::from_bytes(cell);
     match given {
-        CellAnswer::Refused(r) => told::no_number(r),
+        CellAnswer::Refused(r) => face::no_number(r),
         CellAnswer::Is(c) => {
             if cell::is_plain(c) {
-                return told::number(1);
+                return face::number(1);
             }
-            told::number(0)
+            face::number(0)
         }
     }
 }
@@ -214,8 +217,8 @@ pub extern "C" fn tishkolan_cell_compare(first: &[u8], second: &[u8]) -> NumberT
 {
     let given = both(first, second);
     match given {
-        PairAnswer::Refused(r) => told::no_number(r),
-        PairAnswer::Are(p) => told::number(order_number(cell::compare(p.first, p.second))),
+        PairAnswer::Refused(r) => face::no_number(r),
+        PairAnswer::Are(p) => face::number(order_number(cell::compare(p.first, p.second))),
     }
 }
 
@@ -224,8 +227,8 @@ fn of_between(b: Between) -> RefusalTold
     ensures { λ t. ⌜ t ≡ ofBetween b ⌝ }
 {
     match b {
-        Between::Nothing => told::answered(),
-        Between::Refused(r) => told::told(r),
+        Between::Nothing => face::answered(),
+        Between::Refused(r) => face::told(r),
     }
 }
 
@@ -235,7 +238,7 @@ pub extern "C" fn tishkolan_cell_between(first: &[u8], second: &[u8]) -> Refusal
 {
     let given = both(first, second);
     match given {
-        PairAnswer::Refused(r) => told::told(r),
+        PairAnswer::Refused(r) => face::told(r),
         PairAnswer::Are(p) => of_between(cell::cell_between(p.first, p.second)),
     }
 }
@@ -246,8 +249,8 @@ pub extern "C" fn tishkolan_cell_distance(first: &[u8], second: &[u8]) -> BitsTo
 {
     let given = both(first, second);
     match given {
-        PairAnswer::Refused(r) => told::no_bits(r),
-        PairAnswer::Are(p) => told::of_distance(cell::distance_to(p.first, p.second)),
+        PairAnswer::Refused(r) => face::no_bits(r),
+        PairAnswer::Are(p) => face::of_distance(cell::distance_to(p.first, p.second)),
     }
 }
 
@@ -257,8 +260,8 @@ pub extern "C" fn tishkolan_cell_manhattan_distance(first: &[u8], second: &[u8])
 {
     let given = both(first, second);
     match given {
-        PairAnswer::Refused(r) => told::no_number(r),
-        PairAnswer::Are(p) => told::of_number(cell::manhattan_distance_to(p.first, p.second)),
+        PairAnswer::Refused(r) => face::no_number(r),
+        PairAnswer::Are(p) => face::of_number(cell::manhattan_distance_to(p.first, p.second)),
     }
 }
 
@@ -269,7 +272,7 @@ fn put_neighbors(out: &mut [u8], cells: [Cell; 14])
 {
     let mut i = 0;
     while i < 14 {
-        cell::write_at(out, 16 * i, cells[i]);
+        cell::write_at(out, cell::CELL_WIDTH * i, cells[i]);
         i += 1;
     }
 }
@@ -281,7 +284,7 @@ fn put_children(out: &mut [u8], cells: [Cell; 8])
 {
     let mut i = 0;
     while i < 8 {
-        cell::write_at(out, 16 * i, cells[i]);
+        cell::write_at(out, cell::CELL_WIDTH * i, cells[i]);
         i += 1;
     }
 }
@@ -293,19 +296,19 @@ pub extern "C" fn tishkolan_cell_neighbors(cell: &[u8], out: &mut [u8]) -> Refus
 {
     let given = cell::from_bytes(cell);
     match given {
-        CellAnswer::Refused(r) => told::told(r),
+        CellAnswer::Refused(r) => face::told(r),
         CellAnswer::Is(c) => {
             let found = cell::get_neighbors(c);
             let outcome = found.outcome;
             let cells = found.cells;
             match outcome {
-                Outcome::Refused(r) => told::told(r),
+                Outcome::Refused(r) => face::told(r),
                 Outcome::Answered => {
                     if out.len() < 224 {
-                        return told::told(Refusal::NoRoom(Room::Output));
+                        return face::told(Refusal::NoRoom(Room::Output));
                     }
                     put_neighbors(out, cells);
-                    told::answered()
+                    face::answered()
                 }
             }
         }
@@ -319,19 +322,19 @@ pub extern "C" fn tishkolan_cell_children(cell: &[u8], out: &mut [u8]) -> Refusa
 {
     let given = cell::from_bytes(cell);
     match given {
-        CellAnswer::Refused(r) => told::told(r),
+        CellAnswer::Refused(r) => face::told(r),
         CellAnswer::Is(c) => {
             let found = cell::get_children(c);
             let outcome = found.outcome;
             let cells = found.cells;
             match outcome {
-                Outcome::Refused(r) => told::told(r),
+                Outcome::Refused(r) => face::told(r),
                 Outcome::Answered => {
                     if out.len() < 128 {
-                        return told::told(Refusal::NoRoom(Room::Output));
+                        return face::told(Refusal::NoRoom(Room::Output));
                     }
                     put_children(out, cells);
-                    told::answered()
+                    face::answered()
                 }
             }
         }

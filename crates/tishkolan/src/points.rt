@@ -8,31 +8,31 @@ ghost use Rattle.root.specs.Root.{rootBitsOf};
 ghost use Rattle.lattice.specs.Lattice.{at, isLatticePoint, parityOf, parentOf, manhattanOf};
 ghost use Rattle.snap.specs.Snap.{point, snapOf, physicalBitsOf};
 ghost use Rattle.distance.specs.Distance.{distanceOf};
-ghost use Rattle.told.specs.Told.{ofRoot, ofParity, ofCoord, ofPoint, ofDistance, ofNumber, filled, fronted};
-ghost use Rattle.tishkolan.specs.Points.{oppositeTold, triple, triples, neighborsTold, childrenTold};
+ghost use Rattle.face.specs.Told.{ofRoot, ofParity, ofCoord, ofPoint, ofDistance, ofNumber, filled, fronted};
+ghost use Rattle.face.specs.Points.{oppositeTold, triple, triples, neighborsTold, childrenTold};
+use face::BitsTold;
+use face::CoordTold;
+use face::NumberTold;
+use face::PointTold;
+use face::RefusalTold;
 use refusal::Coord;
 use refusal::Outcome;
 use refusal::Refusal;
 use refusal::Room;
-use told::BitsTold;
-use told::CoordTold;
-use told::NumberTold;
-use told::PointTold;
-use told::RefusalTold;
 
 // The nearest double to the root.
 #[no_mangle]
 pub extern "C" fn tishkolan_square_root(bits: u64) -> BitsTold
     ensures { λ t. ⌜ t ≡ ofRoot (rootBitsOf bits) ⌝ }
 {
-    told::of_root(root::square_root_bits(bits))
+    face::of_root(root::square_root_bits(bits))
 }
 
 #[no_mangle]
 pub extern "C" fn tishkolan_parity(x: i32, y: i32, z: i32) -> NumberTold
     ensures { λ t. ⌜ t ≡ ofParity (parityOf (at x y z)) ⌝ }
 {
-    told::of_parity(lattice::parity_of(Coord { x, y, z }))
+    face::of_parity(lattice::parity_of(Coord { x, y, z }))
 }
 
 // The other of the two parities, 0 and 1; no other number is one.
@@ -41,12 +41,12 @@ pub extern "C" fn tishkolan_opposite(parity: u32) -> NumberTold
     ensures { λ t. ⌜ t ≡ oppositeTold parity ⌝ }
 {
     if parity == 0 {
-        return told::number(1);
+        return face::number(1);
     }
     if parity == 1 {
-        return told::number(0);
+        return face::number(0);
     }
-    told::no_number(Refusal::OutOfRange)
+    face::no_number(Refusal::OutOfRange)
 }
 
 #[no_mangle]
@@ -107,13 +107,13 @@ pub extern "C" fn tishkolan_lattice_neighbors(
     let outcome = found.outcome;
     let places = found.coords;
     match outcome {
-        Outcome::Refused(r) => told::told(r),
+        Outcome::Refused(r) => face::told(r),
         Outcome::Answered => {
             if out.len() < 42 {
-                return told::told(Refusal::NoRoom(Room::Output));
+                return face::told(Refusal::NoRoom(Room::Output));
             }
             put_neighbors(out, places);
-            told::answered()
+            face::answered()
         }
     }
 }
@@ -127,13 +127,13 @@ pub extern "C" fn tishkolan_lattice_children(x: i32, y: i32, z: i32, out: &mut [
     let outcome = found.outcome;
     let places = found.coords;
     match outcome {
-        Outcome::Refused(r) => told::told(r),
+        Outcome::Refused(r) => face::told(r),
         Outcome::Answered => {
             if out.len() < 24 {
-                return told::told(Refusal::NoRoom(Room::Output));
+                return face::told(Refusal::NoRoom(Room::Output));
             }
             put_children(out, places);
-            told::answered()
+            face::answered()
         }
     }
 }
@@ -142,7 +142,7 @@ pub extern "C" fn tishkolan_lattice_children(x: i32, y: i32, z: i32, out: &mut [
 pub extern "C" fn tishkolan_lattice_parent(x: i32, y: i32, z: i32) -> CoordTold
     ensures { λ t. ⌜ t ≡ ofCoord (parentOf (at x y z)) ⌝ }
 {
-    told::of_coord(lattice::get_parent(Coord { x, y, z }))
+    face::of_coord(lattice::get_parent(Coord { x, y, z }))
 }
 
 // The lattice point nearest to a physical one.
@@ -150,14 +150,14 @@ pub extern "C" fn tishkolan_lattice_parent(x: i32, y: i32, z: i32) -> CoordTold
 pub extern "C" fn tishkolan_physical_to_lattice(x: u64, y: u64, z: u64, resolution: u8) -> CoordTold
     ensures { λ t. ⌜ t ≡ ofCoord (snapOf (point (ofBits binary64 x) (ofBits binary64 y) (ofBits binary64 z)) resolution) ⌝ }
 {
-    told::of_coord(snap::snap_bits(x, y, z, resolution))
+    face::of_coord(snap::snap_bits(x, y, z, resolution))
 }
 
 #[no_mangle]
 pub extern "C" fn tishkolan_to_physical(x: i32, y: i32, z: i32) -> PointTold
     ensures { λ t. ⌜ t ≡ ofPoint (physicalBitsOf (at x y z)) ⌝ }
 {
-    told::of_point(snap::physical_bits(Coord { x, y, z }))
+    face::of_point(snap::physical_bits(Coord { x, y, z }))
 }
 
 #[no_mangle]
@@ -171,7 +171,7 @@ pub extern "C" fn tishkolan_lattice_distance(
 ) -> BitsTold
     ensures { λ t. ⌜ t ≡ ofDistance (distanceOf (at ax ay az) (at bx by bz)) ⌝ }
 {
-    told::of_distance(distance::distance_to(
+    face::of_distance(distance::distance_to(
         Coord {
             x: ax,
             y: ay,
@@ -196,7 +196,7 @@ pub extern "C" fn tishkolan_lattice_manhattan_distance(
 ) -> NumberTold
     ensures { λ t. ⌜ t ≡ ofNumber (manhattanOf (at ax ay az) (at bx by bz)) ⌝ }
 {
-    told::of_number(lattice::manhattan_distance_to(
+    face::of_number(lattice::manhattan_distance_to(
         Coord {
             x: ax,
             y: ay,

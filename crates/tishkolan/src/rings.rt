@@ -2,8 +2,9 @@
 ghost use mathlib.Core.Path.{_≡_};
 ghost use mathlib.Core.Bool.{true, false};
 ghost use Rattle.ring.specs.Ring.{ringIn};
-ghost use Rattle.told.specs.Rings.{ringTold, ofRing};
-use told::CountTold;
+ghost use Rattle.face.specs.Rings.{ringTold, ofRing};
+ghost use Rattle.known.specs.Workspace.{inRooms};
+use face::CountTold;
 
 // The cells within k steps of a centre.
 #[no_mangle]
@@ -15,9 +16,11 @@ pub extern "C" fn tishkolan_k_ring(
     workspace: &mut [u8],
     output: &mut [u8],
 ) -> CountTold
-    ensures { λ t. ⌜ ringTold t (now (workspace .exit)) (now (output .exit)) ≡ ofRing (ringIn true (now (center .entry)) k known waiting (now (workspace .entry)) (now (output .entry))) ⌝ }
+    ensures { λ t.
+        ⌜ ringTold t (now (workspace .exit)) (now (output .exit))
+        ≡ ofRing (ringIn true (now (center .entry)) k (inRooms known waiting) (now (workspace .entry)) (now (output .entry))) ⌝ }
 {
-    told::layers::of_count(
+    face::layers::of_count(
         0,
         ring::k_ring(center, k, known, waiting, workspace, output),
     )
@@ -33,9 +36,11 @@ pub extern "C" fn tishkolan_k_shell(
     workspace: &mut [u8],
     output: &mut [u8],
 ) -> CountTold
-    ensures { λ t. ⌜ ringTold t (now (workspace .exit)) (now (output .exit)) ≡ ofRing (ringIn false (now (center .entry)) k known waiting (now (workspace .entry)) (now (output .entry))) ⌝ }
+    ensures { λ t.
+        ⌜ ringTold t (now (workspace .exit)) (now (output .exit))
+        ≡ ofRing (ringIn false (now (center .entry)) k (inRooms known waiting) (now (workspace .entry)) (now (output .entry))) ⌝ }
 {
-    told::layers::of_count(
+    face::layers::of_count(
         0,
         ring::k_shell(center, k, known, waiting, workspace, output),
     )

@@ -1,7 +1,8 @@
 // Routes for C: the verdict on one, and the choice between two, as numbers.
 ghost use mathlib.Core.Path.{_≡_};
 ghost use Rattle.route.specs.Choice.{choiceBetween};
-ghost use Rattle.route.specs.Route.{verdictOf};
+ghost use Rattle.route.specs.Route.{verdictOf, claim};
+ghost use Rattle.table.specs.Records.{layer};
 
 // The verdict on a route from start to goal.
 #[no_mangle]
@@ -14,7 +15,7 @@ pub extern "C" fn tishkolan_route_verdict(
     count: usize,
     rule: u32,
 ) -> u32
-    ensures { λ r. ⌜ r ≡ verdictOf (now (cells .entry)) (now (start .entry)) (now (goal .entry)) cost (now (flags .entry)) count rule ⌝ }
+    ensures { λ r. ⌜ r ≡ verdictOf (claim (now (cells .entry)) (now (start .entry)) (now (goal .entry)) cost) (layer (now (flags .entry)) count) rule ⌝ }
 {
     route::verdict(cells, start, goal, cost, flags, count, rule)
 }
@@ -34,7 +35,10 @@ pub extern "C" fn tishkolan_route_choice(
     count: usize,
     rule: u32,
 ) -> u32
-    ensures { λ r. ⌜ r ≡ choiceBetween (now (sent .entry)) (now (homing .entry)) (now (start .entry)) (now (goal .entry)) cost (now (departure .entry)) (now (home .entry)) price (now (flags .entry)) count rule ⌝ }
+    ensures { λ r.
+        let sending = claim (now (sent .entry)) (now (start .entry)) (now (goal .entry)) cost in
+        let returning = claim (now (homing .entry)) (now (departure .entry)) (now (home .entry)) price in
+        ⌜ r ≡ choiceBetween sending returning (layer (now (flags .entry)) count) rule ⌝ }
 {
     route::choice(
         sent,

@@ -1,8 +1,10 @@
 // The search for C: a route between two cells, found in two workspaces that C lends.
 ghost use mathlib.Core.Path.{_≡_};
-ghost use Rattle.astar.specs.Call.{searchIn};
-ghost use Rattle.told.specs.Searches.{searchTold, ofSearched};
-use told::SearchTold;
+ghost use Rattle.astar.specs.Call.{searchIn, defaultLimit, asking, buffers};
+ghost use Rattle.face.specs.Searches.{searchTold, ofSearched};
+ghost use Rattle.table.specs.Records.{layer};
+ghost use Rattle.known.specs.Workspace.{inRooms};
+use face::SearchTold;
 
 // A route from start to goal that closes no more cells than a limit.
 #[no_mangle]
@@ -19,9 +21,12 @@ pub extern "C" fn tishkolan_astar_with_limit(
     waiting_workspace: &mut [u8],
     out: &mut [u8],
 ) -> SearchTold
-    ensures { λ t. ⌜ searchTold t (now («known_workspace» .exit)) (now («waiting_workspace» .exit)) (now (out .exit)) ≡ ofSearched (searchIn (now (start .entry)) (now (goal .entry)) known waiting limit rule (now (flags .entry)) «flags_count» (now («known_workspace» .entry)) (now («waiting_workspace» .entry)) (now (out .entry))) ⌝ }
+    ensures { λ t.
+        let asked = asking (now (start .entry)) (now (goal .entry)) (inRooms known waiting) limit rule (layer (now (flags .entry)) «flags_count») in
+        let lent = buffers (now («known_workspace» .entry)) (now («waiting_workspace» .entry)) (now (out .entry)) in
+        ⌜ searchTold t (now («known_workspace» .exit)) (now («waiting_workspace» .exit)) (now (out .exit)) ≡ ofSearched (searchIn asked lent) ⌝ }
 {
-    told::searches::of_search(astar::whole::astar_with_limit(
+    face::searches::of_search(astar::call::astar_with_limit(
         start,
         goal,
         known,
@@ -50,9 +55,12 @@ pub extern "C" fn tishkolan_astar(
     waiting_workspace: &mut [u8],
     out: &mut [u8],
 ) -> SearchTold
-    ensures { λ t. ⌜ searchTold t (now («known_workspace» .exit)) (now («waiting_workspace» .exit)) (now (out .exit)) ≡ ofSearched (searchIn (now (start .entry)) (now (goal .entry)) known waiting 100000 rule (now (flags .entry)) «flags_count» (now («known_workspace» .entry)) (now («waiting_workspace» .entry)) (now (out .entry))) ⌝ }
+    ensures { λ t.
+        let asked = asking (now (start .entry)) (now (goal .entry)) (inRooms known waiting) defaultLimit rule (layer (now (flags .entry)) «flags_count») in
+        let lent = buffers (now («known_workspace» .entry)) (now («waiting_workspace» .entry)) (now (out .entry)) in
+        ⌜ searchTold t (now («known_workspace» .exit)) (now («waiting_workspace» .exit)) (now (out .exit)) ≡ ofSearched (searchIn asked lent) ⌝ }
 {
-    told::searches::of_search(astar::whole::astar(
+    face::searches::of_search(astar::call::astar(
         start,
         goal,
         known,

@@ -1,4 +1,4 @@
--- What the steps come to: counted, the keys of a heap are one more, or one fewer. Assumes nothing.
+-- What a push and a pop come to: each key is there as often as before, but that the pushed one is there once more, and the popped one once less.
 use mathlib.Core.Path.{_≡_, sym, ap, subst, _∙_}
 use mathlib.Core.List.{List, _∷_}
 use Prim.Native.Nat.{ℕ, _+_, _-_, _<_}
@@ -6,26 +6,28 @@ use native.Mathlib.Omega.{arith}
 use lib.ListN.{length}
 use Rattle.words.specs.Word.{Bytes}
 use Rattle.waiting.specs.declared.Entry.{Entry}
-use Rattle.waiting.specs.Heap.{Heap, single, count}
-use Rattle.waiting.specs.Entries.{keyOf, entryAt, keyIn, EntryWords}
-use Rattle.waiting.specs.Sorted.{ascendingKeys, sortedKeys}
-use Rattle.waiting.specs.Steps.{Dug, Risen, Pushed, Popped}
+use Rattle.waiting.specs.Inner.Heap.{Heap}
+use Rattle.waiting.proofs.Heap.{single, count}
+use Rattle.waiting.specs.Inner.Entries.{entryKey, entryAt, keyIn, EntryWords}
+use Rattle.waiting.specs.Inner.Sorted.{ascendingKeys, sortedKeys}
+use Rattle.waiting.proofs.Steps.{Dug, Risen}
+use Rattle.waiting.specs.Inner.Steps.{Pushed, Popped}
 use Rattle.waiting.proofs.Decides.{words-at}
 use Rattle.waiting.proofs.Holes.{count-one-more, root-least}
 use Rattle.waiting.proofs.Counted.{one-more-ascending, least-ascending}
 
-pub pushed : (l after : List ℕ) (n : ℕ) (e : Entry) → Risen (keyIn l) (keyIn after) (n + 1) n (keyOf e) → length after ≡ length l → Pushed l after n e
+pub pushed : (l after : List ℕ) (n : ℕ) (e : Entry) → Risen (keyIn l) (keyIn after) (n + 1) n (entryKey e) → length after ≡ length l → Pushed l after n e
 unfolding sortedKeys
 pushed l after n e r long =
     record {
       heap = r .heap;
-      keys = one-more-ascending (keyIn l) (keyIn after) n (n + 1) (keyOf e) (λ v. let filled = r .has v in let more = count-one-more (keyIn l) n v in omega arith);
+      keys = one-more-ascending (keyIn l) (keyIn after) n (n + 1) (entryKey e) (λ v. let filled = r .has v in let more = count-one-more (keyIn l) n v in omega arith);
       long = long;
     }
 
-pub key-is : (l : List ℕ) (i : ℕ) {e : Entry} → e ≡ entryAt l i → keyOf e ≡ keyIn l i
+pub key-is : (l : List ℕ) (i : ℕ) {e : Entry} → e ≡ entryAt l i → entryKey e ≡ keyIn l i
 unfolding keyIn
-key-is l i same = ap keyOf same
+key-is l i same = ap entryKey same
 
 -- the root leaves, and the last key fills its place
 pub root-left : (key between after : ℕ → ℕ) (n hole x : ℕ) → 0 < n → Dug key between (n - 1) hole → Risen between after (n - 1) hole x → x ≡ key (n - 1) → (v : ℕ) → count key n v ≡ count after (n - 1) v + single (key 0) v

@@ -1,4 +1,4 @@
--- Cases on two numbers, as functions. Assumes nothing.
+-- Cases on two numbers, as functions.
 use mathlib.Core.Path.{_≡_}
 use mathlib.Core.Logic.{_≢_}
 use Prim.Native.Nat.{ℕ, _≤_, _<_}

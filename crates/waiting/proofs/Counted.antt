@@ -1,12 +1,12 @@
--- Two ascending lists that have each key as often are one list: so it is enough to count the keys of a heap before and after. Assumes nothing.
+-- Two ascending lists that have each key as often are one list: so it is enough to count the keys of a heap before and after.
 use mathlib.Core.Path.{_≡_, refl, sym, ap, ap₂, _∙_}
 use mathlib.Core.Logic.{_≢_}
 use mathlib.Core.List.{List, [], _∷_}
 use Prim.Native.Nat.{ℕ, zero, suc, _+_, _≤_, _<_}
 use native.Mathlib.Omega.{arith}
 use borrow.Author.Tests.{eq-eqb, ne-eqb, le-leb, lt-leb}
-use Rattle.waiting.specs.Heap.{single, count}
-use Rattle.waiting.specs.Sorted.{insertKey, ascendingKeys}
+use Rattle.waiting.proofs.Heap.{single, count}
+use Rattle.waiting.specs.Inner.Sorted.{insertKey, ascendingKeys}
 use Rattle.waiting.proofs.Cases.{by-less, by-equal}
 
 -- x is at most each of the list

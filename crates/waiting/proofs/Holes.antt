@@ -1,11 +1,12 @@
--- A hole that goes up or down in a heap, and is filled. Assumes nothing.
+-- A hole that goes up or down in a heap, and is filled.
 use mathlib.Core.Path.{_≡_, refl, ap, ap₂, _∙_}
 use mathlib.Core.Logic.{_≢_}
 use Prim.Native.Nat.{ℕ, zero, suc, _+_, _-_, _*_, _/_, _≤_, _<_}
 use native.Mathlib.Omega.{arith}
 use native.Mathlib.Numerals.{add-one}
-use Rattle.waiting.specs.Heap.{Heap, Hole, Below, Above, Replaced, single, count, Moved}
-use Rattle.waiting.specs.Steps.{LeastChild}
+use Rattle.waiting.specs.Inner.Heap.{Heap}
+use Rattle.waiting.proofs.Heap.{Hole, Below, Above, Replaced, single, count, Moved}
+use Rattle.waiting.proofs.Steps.{LeastChild}
 use Rattle.waiting.proofs.Cases.{by-less, by-equal}
 
 -- ---- how often a key stands there

@@ -1,4 +1,4 @@
--- The first of the least keys among places that stand together: of one, of two runs of places, of four, of the few children that the last parent has. Assumes nothing.
+-- The first of the least keys among places that stand together: of one, of two runs of places, of four, of the few children that the last parent has.
 use mathlib.Core.Path.{_≡_, refl, sym, ap, subst, _∙_}
 use mathlib.Core.Bool.{Bool, true, false, cond}
 use mathlib.Core.List.{List}
@@ -7,9 +7,9 @@ use native.Mathlib.Omega.{arith}
 use lib.Dec.{ltb}
 use mir.Val.{boolByte}
 use borrow.Author.Tests.{ltb-true, ltb-false, lt-ltb, le-ltb}
-use Rattle.waiting.specs.Entries.{keyIn}
-use Rattle.waiting.specs.Steps.{LeastChild}
-use Rattle.waiting.specs.Sift.{firstLeast, childIn}
+use Rattle.waiting.specs.Inner.Entries.{keyIn}
+use Rattle.waiting.proofs.Steps.{LeastChild}
+use Rattle.waiting.specs.Inner.Sift.{firstLeast, childIn}
 use Rattle.waiting.proofs.Cases.{by-less, by-equal}
 
 -- of the places from a up to j, c is the first that has the least key

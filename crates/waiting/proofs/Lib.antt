@@ -1,3 +1,8 @@
+pub mod InnerTheorems
+pub mod Heap
+pub mod Steps
+pub mod Laws
+pub mod Sift
 mod Cases
 mod Decides
 mod Stored

@@ -1,8 +1,8 @@
--- What holds while the hole goes up, and while it goes down. Assumes nothing.
+-- What holds while the hole goes up, and while it goes down.
 use Prim.Native.Nat.{ℕ, _-_, _/_, _<_}
 use native.Mathlib.Omega.{arith}
-use Rattle.waiting.specs.Heap.{Hole, Below, Above, Replaced, Moved}
-use Rattle.waiting.specs.Steps.{LeastChild, Risen}
+use Rattle.waiting.proofs.Heap.{Hole, Below, Above, Replaced, Moved}
+use Rattle.waiting.proofs.Steps.{LeastChild, Risen}
 use Rattle.waiting.proofs.Holes.{moved-on, moved-end, filled, hole-up, below-up, hole-down}
 
 -- the hole came from a, and x is to fill it

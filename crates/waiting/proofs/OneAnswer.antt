@@ -1,7 +1,7 @@
--- Two answers that meet a contract of the waiting entries agree, and so do the bytes that they leave, whatever the bytes were. Assumes nothing.
+-- Two answers that meet a contract of the waiting entries agree, and so do the bytes that they leave, whatever the bytes were.
 use mathlib.Core.Path.{ap, sym, _∙_}
 use denote.Ref.{at-last}
-use Rattle.refusal.specs.OneAnswer.{OneAnswer, OneExit}
+use Rattle.general.specs.OneAnswer.{OneAnswer, OneExit}
 use mathlib.Core.List.{List}
 use Prim.Native.Nat.{ℕ}
 use Rattle.waiting.proofs as here

@@ -1,4 +1,4 @@
--- Bytes that are a heap stay one when an entry is pushed or popped: what push and pop leave, in the words of heaps. Assumes nothing.
+-- Bytes that are a heap stay one when an entry is pushed or popped: what push and pop leave, in the words of heaps.
 use mathlib.Core.Path.{_≡_, refl, sym, subst, _∙_}
 use mathlib.Core.Bool.{Bool, true, false, cond}
 use mathlib.Core.List.{List}
@@ -9,12 +9,15 @@ use lib.ListN.{length}
 use borrow.Author.Tests.{ltb-true, ltb-false, lt-ltb, le-ltb}
 use native.Mathlib.Decide.{ℕ-discrete}
 use Rattle.words.specs.Word.{little, Bytes}
-use Rattle.words.specs.Laws.{bytes-stored}
+use Rattle.words.proofs.Laws.{bytes-stored}
 use Rattle.waiting.specs.declared.Entry.{Entry}
-use Rattle.waiting.specs.Heap.{Heap, Replaced}
-use Rattle.waiting.specs.Steps.{Dug, Risen, Pushed, Popped}
-use Rattle.waiting.specs.Entries.{keyOf, entryAt, keyIn, entryStored, EntryWords}
-use Rattle.waiting.specs.Sift.{risenIn, childIn, dugIn, pushIn, popIn, length-entry-stored, risen-top, risen-fits, risen-on, dug-end, dug-on}
+use Rattle.waiting.specs.Inner.Heap.{Heap}
+use Rattle.waiting.proofs.Heap.{Replaced}
+use Rattle.waiting.proofs.Steps.{Dug, Risen}
+use Rattle.waiting.specs.Inner.Steps.{Pushed, Popped}
+use Rattle.waiting.specs.Inner.Entries.{entryKey, entryAt, keyIn, entryStored, EntryWords}
+use Rattle.waiting.specs.Inner.Sift.{risenIn, childIn, dugIn, pushIn, popIn}
+use Rattle.waiting.proofs.Sift.{length-entry-stored, risen-top, risen-fits, risen-on, dug-end, dug-on}
 use Rattle.waiting.proofs.Stored.{stored-replaced}
 use Rattle.waiting.proofs.Cases.{by-less}
 use Rattle.waiting.proofs.Decides.{words-at}
@@ -30,32 +33,32 @@ bytes-entry-stored l i e b =
 
 module _ (start : ℕ → ℕ) (size a : ℕ) (e : Entry) (words : EntryWords e) where
   abbrev Right : List ℕ → Type 0
-  Right x = Risen start (keyIn x) size a (keyOf e)
+  Right x = Risen start (keyIn x) size a (entryKey e)
 
-  module _ (l : List ℕ) (hole : ℕ) (long : 32 * size ≤ length l) (b : Bytes l) (r : Rising start (keyIn l) size a hole (keyOf e)) where
+  module _ (l : List ℕ) (hole : ℕ) (long : 32 * size ≤ length l) (b : Bytes l) (r : Rising start (keyIn l) size a hole (entryKey e)) where
     abbrev parent : ℕ
     parent = (hole - 1) / 4
 
     abbrev lifted : List ℕ
     lifted = entryStored l hole (entryAt l parent)
 
-    stays : Replaced (keyIn l) (keyIn (entryStored l hole e)) hole (keyOf e)
+    stays : Replaced (keyIn l) (keyIn (entryStored l hole e)) hole (entryKey e)
     stays = stored-replaced l hole e (omega (arith, r .within)) words refl
 
     at-top : (m : ℕ) → hole ≡ 0 → Right (risenIn m l hole e)
-    at-top m top = subst Right (sym (risen-top m l hole e top)) (risen start (keyIn l) _ size a hole (keyOf e) r (λ inner. absurd (omega arith)) stays)
+    at-top m top = subst Right (sym (risen-top m l hole e top)) (risen start (keyIn l) _ size a hole (entryKey e) r (λ inner. absurd (omega arith)) stays)
 
-    at-rest : (m : ℕ) → ltb (keyOf e) (keyIn l parent) ≡ false → Right (risenIn m l hole e)
-    at-rest m f = subst Right (sym (risen-fits m l hole e f)) (risen start (keyIn l) _ size a hole (keyOf e) r (λ inner. ltb-false _ _ f) stays)
+    at-rest : (m : ℕ) → ltb (entryKey e) (keyIn l parent) ≡ false → Right (risenIn m l hole e)
+    at-rest m f = subst Right (sym (risen-fits m l hole e f)) (risen start (keyIn l) _ size a hole (entryKey e) r (λ inner. ltb-false _ _ f) stays)
 
     lifts : Replaced (keyIn l) (keyIn lifted) hole (keyIn l parent)
     unfolding keyIn
     lifts = stored-replaced l hole (entryAt l parent) (omega (arith, r .within)) (words-at l b parent) refl
 
-    higher : 0 < hole → ltb (keyOf e) (keyIn l parent) ≡ true → Rising start (keyIn lifted) size a parent (keyOf e)
-    higher inner f = rises start (keyIn l) _ size a hole (keyOf e) r inner (ltb-true _ _ f) lifts
+    higher : 0 < hole → ltb (entryKey e) (keyIn l parent) ≡ true → Rising start (keyIn lifted) size a parent (entryKey e)
+    higher inner f = rises start (keyIn l) _ size a hole (entryKey e) r inner (ltb-true _ _ f) lifts
 
-    by-place : (m : ℕ) → (0 < hole → Rising start (keyIn lifted) size a parent (keyOf e) → Right (risenIn m lifted parent e)) → Dec (hole ≡ 0) → (t : Bool) → ltb (keyOf e) (keyIn l parent) ≡ t → Right (risenIn (suc m) l hole e)
+    by-place : (m : ℕ) → (0 < hole → Rising start (keyIn lifted) size a parent (entryKey e) → Right (risenIn m lifted parent e)) → Dec (hole ≡ 0) → (t : Bool) → ltb (entryKey e) (keyIn l parent) ≡ t → Right (risenIn (suc m) l hole e)
     by-place m more (yes top) t f = at-top (suc m) top
     by-place m more (no inside) false f = at-rest (suc m) f
     by-place m more (no inside) true f =
@@ -63,19 +66,19 @@ module _ (start : ℕ → ℕ) (size a : ℕ) (e : Entry) (words : EntryWords e)
         subst Right (sym (risen-on m l hole e inner f)) (more inner (higher inner f))
 
   -- so many steps are enough where the hole is not above them
-  pub rising-risen : (m : ℕ) (l : List ℕ) (hole : ℕ) → hole ≤ m → 32 * size ≤ length l → Bytes l → Rising start (keyIn l) size a hole (keyOf e) → Right (risenIn m l hole e)
+  pub rising-risen : (m : ℕ) (l : List ℕ) (hole : ℕ) → hole ≤ m → 32 * size ≤ length l → Bytes l → Rising start (keyIn l) size a hole (entryKey e) → Right (risenIn m l hole e)
   rising-risen zero l hole enough long b r = at-top l hole long b r zero (omega arith)
   rising-risen (suc m) l hole enough long b r =
       let parent = (hole - 1) / 4 in
       by-place l hole long b r m
       (λ inner x. rising-risen m (entryStored l hole (entryAt l parent)) parent (omega arith) (omega (arith, length-entry-stored l hole (entryAt l parent))) (bytes-entry-stored l hole (entryAt l parent) b) x)
-      (ℕ-discrete hole 0) (ltb (keyOf e) (keyIn l parent)) refl
+      (ℕ-discrete hole 0) (ltb (entryKey e) (keyIn l parent)) refl
 
 pub length-risen : (m : ℕ) (l : List ℕ) (hole : ℕ) (e : Entry) → length (risenIn m l hole e) ≡ length l
 unfolding risenIn
 length-risen zero l hole e = length-entry-stored l hole e
 length-risen (suc m) l hole e =
-    either (eqb hole 0) (ltb (keyOf e) (keyIn l ((hole - 1) / 4))) (entryStored l hole e) (risenIn m (entryStored l hole (entryAt l ((hole - 1) / 4))) ((hole - 1) / 4) e) (length-entry-stored l hole e)
+    either (eqb hole 0) (ltb (entryKey e) (keyIn l ((hole - 1) / 4))) (entryStored l hole e) (risenIn m (entryStored l hole (entryAt l ((hole - 1) / 4))) ((hole - 1) / 4) e) (length-entry-stored l hole e)
     (length-risen m (entryStored l hole (entryAt l ((hole - 1) / 4))) ((hole - 1) / 4) e ∙ length-entry-stored l hole (entryAt l ((hole - 1) / 4)))
   where
     either : (s t : Bool) (x y : List ℕ) → length x ≡ length l → length y ≡ length l → length (cond s x (cond t y x)) ≡ length l
@@ -136,7 +139,7 @@ unfolding pushIn
 pushed-in l size e b words heap long =
     pushed l (risenIn size l size e) size e
     (rising-risen (keyIn l) (size + 1) size e words size l size (omega arith) long b
-    (record { within = omega arith; open-at = hole-last (keyIn l) size heap; below = below-childless (keyIn l) (size + 1) size (keyOf e) (omega arith); moved = λ y. refl }))
+    (record { within = omega arith; open-at = hole-last (keyIn l) size heap; below = below-childless (keyIn l) (size + 1) size (entryKey e) (omega arith); moved = λ y. refl }))
     (length-risen size l size e)
 
 -- and of one that has entries the least waits no more
@@ -159,7 +162,7 @@ module _ (l : List ℕ) (size : ℕ) (b : Bytes l) (heap : Heap (keyIn l) size) 
     unfolding Deep
     down = record { within = deep .0 .within; childless = dug-childless rest l rest 0 (omega arith); hole = deep .0 .open-at; moved = deep .0 .moved }
 
-    up : Risen (keyIn (dug .0)) (keyIn filled) rest (dug .1) (keyOf (entryAt l rest))
+    up : Risen (keyIn (dug .0)) (keyIn filled) rest (dug .1) (entryKey (entryAt l rest))
     unfolding Deep
     up =
         rising-risen (keyIn (dug .0)) rest (dug .1) (entryAt l rest) (words-at l b rest) (dug .1) (dug .0) (dug .1) (omega arith) (deep .1 .1) (deep .1 .0)
@@ -168,7 +171,7 @@ module _ (l : List ℕ) (size : ℕ) (b : Bytes l) (heap : Heap (keyIn l) size) 
     many-left : Popped l filled size (entryAt l 0)
     many-left =
         popped l filled size (entryAt l 0) b heap refl (up .heap)
-        (root-left (keyIn l) (keyIn (dug .0)) (keyIn filled) size (dug .1) (keyOf (entryAt l rest)) (omega arith) down up (key-is l rest refl))
+        (root-left (keyIn l) (keyIn (dug .0)) (keyIn filled) size (dug .1) (entryKey (entryAt l rest)) (omega arith) down up (key-is l rest refl))
         (length-risen (dug .1) (dug .0) (dug .1) (entryAt l rest) ∙ length-dug rest l rest 0)
 
   pub popped-in : 0 < size → Popped l (popIn l size) size (entryAt l 0)
@@ -198,7 +201,7 @@ unfolding risenIn
 bytes-risen zero l hole e b = bytes-entry-stored l hole e b
 bytes-risen (suc m) l hole e b =
     let up = entryStored l hole (entryAt l ((hole - 1) / 4)) in
-    either (eqb hole 0) (ltb (keyOf e) (keyIn l ((hole - 1) / 4))) (entryStored l hole e) (risenIn m up ((hole - 1) / 4) e) (bytes-entry-stored l hole e b)
+    either (eqb hole 0) (ltb (entryKey e) (keyIn l ((hole - 1) / 4))) (entryStored l hole e) (risenIn m up ((hole - 1) / 4) e) (bytes-entry-stored l hole e b)
     (bytes-risen m up ((hole - 1) / 4) e (bytes-entry-stored l hole (entryAt l ((hole - 1) / 4)) b))
   where
     either : (s t : Bool) (x y : List ℕ) → Bytes x → Bytes y → Bytes (cond s x (cond t y x))

@@ -1,15 +1,16 @@
--- An entry that is stored, or copied word by word: its place has its key, and the other places keep theirs. Assumes nothing.
+-- An entry that is stored, or copied word by word: its place has its key, and the other places keep theirs.
 use mathlib.Core.Path.{_≡_, refl, sym, ap, _∙_, subst}
 use mathlib.Core.Logic.{_≢_}
 use mathlib.Core.List.{List}
 use Prim.Native.Nat.{ℕ, _+_, _*_, _≤_}
 use native.Mathlib.Omega.{arith}
 use lib.ListN.{length}
-use Rattle.words.specs.Word.{little, word, stored, Apart}
-use Rattle.words.specs.Laws.{length-stored, word-stored, word-stored-apart}
+use Rattle.words.specs.Word.{little, word, stored}
+use Rattle.words.proofs.Word.{Apart}
+use Rattle.words.proofs.Laws.{length-stored, word-stored, word-stored-apart}
 use Rattle.waiting.specs.declared.Entry.{Entry}
-use Rattle.waiting.specs.Heap.{Replaced}
-use Rattle.waiting.specs.Entries.{keyOf, entryAt, keyIn, entryStored, EntryWords}
+use Rattle.waiting.proofs.Heap.{Replaced}
+use Rattle.waiting.specs.Inner.Entries.{entryKey, entryAt, keyIn, entryStored, EntryWords}
 
 -- a word beside one that is stored
 beside : (l : List ℕ) (p v q : ℕ) → Apart p 8 q 8 → word little 8 (stored little 8 l p v) q ≡ word little 8 l q
@@ -89,11 +90,11 @@ module _ (l : List ℕ) (i : ℕ) (e : Entry) where
         let g = elsewhere (32 * j + 24) (omega arith) in
         λ t. record { f = f t; cell = record { high = high t; low = low t }; g = g t }
 
-    pub stored-replaced : {after : List ℕ} → after ≡ entryStored l i e → Replaced (keyIn l) (keyIn after) i (keyOf e)
+    pub stored-replaced : {after : List ℕ} → after ≡ entryStored l i e → Replaced (keyIn l) (keyIn after) i (entryKey e)
     unfolding keyIn
     stored-replaced same =
-        subst (λ (x : List ℕ). Replaced (keyIn l) (keyIn x) i (keyOf e)) (sym (same ∙ all-four))
-        (record { new = ap keyOf same-entry; others = λ j ne. ap keyOf (other-entry j ne) })
+        subst (λ (x : List ℕ). Replaced (keyIn l) (keyIn x) i (entryKey e)) (sym (same ∙ all-four))
+        (record { new = ap entryKey same-entry; others = λ j ne. ap entryKey (other-entry j ne) })
 
 -- the words are read and stored in turn, and each is read before it is stored over
 pub copied : (l first second third fourth : List ℕ) (i j f high low g : ℕ)

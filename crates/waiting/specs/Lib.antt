@@ -1,6 +1,2 @@
-pub mod Heap
-pub mod Entries
-pub mod Sorted
-pub mod Steps
-pub mod Laws
-pub mod Sift
+pub mod Width
+pub mod Inner

@@ -1,12 +1,17 @@
-// The waiting entries of a search, in bytes that a caller lends: a heap of four children, which has its least key at place 0. What each function leaves is a function of the bytes, whether they are a heap or not.
-// An entry is four little-endian words: f, the cell's high word, its low word, g. In this order they decide which entry is less.
+// The waiting entries of a search, in bytes that a caller lends: a heap of four children, which has its least key at place 0. What each function
+// leaves is a function of the bytes, whether they are a heap or not. An entry is four little-endian words: f, the cell's high word, its low word, g.
+// In this order they decide which entry is less.
 ghost use mathlib.Core.Path.{_≡_};
 ghost use Prim.Native.Nat.{_+_, _-_, _*_, _≤_, _<_};
 ghost use lib.Dec.{ltb};
 ghost use lib.ListN.{length};
-ghost use Rattle.waiting.specs.Entries.{keyOf, entryAt, keyIn, entryStored};
-ghost use Rattle.waiting.specs.Sift.{firstLeast, childIn, dugIn, risenIn, pushIn, popIn};
+ghost use Rattle.waiting.specs.Inner.Entries.{entryKey, entryAt, keyIn, entryStored};
+ghost use Rattle.waiting.specs.Inner.Sift.{firstLeast, childIn, dugIn, risenIn, pushIn, popIn};
+ghost use Rattle.waiting.specs.Width.{entryWidth};
 use refusal::Cell;
+
+// An entry: f, the two words of its cell, g.
+pub const ENTRY_WIDTH: usize = 32;
 
 pub struct Entry {
     // The cost so far and the estimate of what is left, together.
@@ -18,10 +23,10 @@ pub struct Entry {
 
 // The entry at place i.
 fn entry_at(heap: &[u8], i: usize) -> Entry
-    requires { ⌜ 32 * i + 32 ≤ length (now heap) ⌝ }
+    requires { ⌜ entryWidth * i + entryWidth ≤ length (now heap) ⌝ }
     ensures { λ r. ⌜ r ≡ entryAt (now (heap .entry)) i ⌝ }
 {
-    let at = 32 * i;
+    let at = ENTRY_WIDTH * i;
     let f = words::read64_little(heap, at);
     let high = words::read64_little(heap, at + 8);
     let low = words::read64_little(heap, at + 16);
@@ -35,10 +40,10 @@ fn entry_at(heap: &[u8], i: usize) -> Entry
 
 // Puts e at place i.
 fn store(heap: &mut [u8], i: usize, e: Entry)
-    requires { ⌜ 32 * i + 32 ≤ length (now heap) ⌝ }
+    requires { ⌜ entryWidth * i + entryWidth ≤ length (now heap) ⌝ }
     ensures { λ _. ⌜ now (heap .exit) ≡ entryStored (now (heap .entry)) i e ⌝ }
 {
-    let at = 32 * i;
+    let at = ENTRY_WIDTH * i;
     words::write64_little(heap, at, e.f);
     words::write64_little(heap, at + 8, e.cell.high);
     words::write64_little(heap, at + 16, e.cell.low);
@@ -47,11 +52,11 @@ fn store(heap: &mut [u8], i: usize, e: Entry)
 
 // Puts the entry at `from` at `to` as well: word by word, so that each is one load and one store.
 fn copy(heap: &mut [u8], from: usize, to: usize)
-    requires { ⌜ (32 * from + 32 ≤ length (now heap)) × (32 * to + 32 ≤ length (now heap)) ⌝ }
+    requires { ⌜ (entryWidth * from + entryWidth ≤ length (now heap)) × (entryWidth * to + entryWidth ≤ length (now heap)) ⌝ }
     ensures { λ _. ⌜ now (heap .exit) ≡ entryStored (now (heap .entry)) to (entryAt (now (heap .entry)) from) ⌝ }
 {
-    let source = 32 * from;
-    let target = 32 * to;
+    let source = ENTRY_WIDTH * from;
+    let target = ENTRY_WIDTH * to;
     let f = words::read64_little(heap, source);
     words::write64_little(heap, target, f);
     let high = words::read64_little(heap, source + 8);
@@ -65,7 +70,7 @@ fn copy(heap: &mut [u8], from: usize, to: usize)
 // Whether a is less than b, which has the same f.
 fn less_tied(a: Entry, b: Entry) -> bool
     requires { ⌜ a .f ≡ b .f ⌝ }
-    ensures { λ r. ⌜ r ≡ ltb (keyOf a) (keyOf b) ⌝ }
+    ensures { λ r. ⌜ r ≡ ltb (entryKey a) (entryKey b) ⌝ }
 {
     if a.cell.high == b.cell.high {
         if a.cell.low == b.cell.low {
@@ -78,10 +83,10 @@ fn less_tied(a: Entry, b: Entry) -> bool
 
 // Whether e is less than the entry at place i: by f alone, but for a tie.
 fn less_than_at(heap: &[u8], e: Entry, i: usize) -> bool
-    requires { ⌜ 32 * i + 32 ≤ length (now heap) ⌝ }
-    ensures { λ r. ⌜ r ≡ ltb (keyOf e) (keyIn (now (heap .entry)) i) ⌝ }
+    requires { ⌜ entryWidth * i + entryWidth ≤ length (now heap) ⌝ }
+    ensures { λ r. ⌜ r ≡ ltb (entryKey e) (keyIn (now (heap .entry)) i) ⌝ }
 {
-    let f = words::read64_little(heap, 32 * i);
+    let f = words::read64_little(heap, ENTRY_WIDTH * i);
     if e.f == f {
         return less_tied(e, entry_at(heap, i));
     }
@@ -90,11 +95,11 @@ fn less_than_at(heap: &[u8], e: Entry, i: usize) -> bool
 
 // Whether the entry at place i is less than that at place j: by f alone, but for a tie.
 fn less_at(heap: &[u8], i: usize, j: usize) -> bool
-    requires { ⌜ (32 * i + 32 ≤ length (now heap)) × (32 * j + 32 ≤ length (now heap)) ⌝ }
+    requires { ⌜ (entryWidth * i + entryWidth ≤ length (now heap)) × (entryWidth * j + entryWidth ≤ length (now heap)) ⌝ }
     ensures { λ r. ⌜ r ≡ ltb (keyIn (now (heap .entry)) i) (keyIn (now (heap .entry)) j) ⌝ }
 {
-    let a = words::read64_little(heap, 32 * i);
-    let b = words::read64_little(heap, 32 * j);
+    let a = words::read64_little(heap, ENTRY_WIDTH * i);
+    let b = words::read64_little(heap, ENTRY_WIDTH * j);
     if a == b {
         return less_tied(entry_at(heap, i), entry_at(heap, j));
     }
@@ -103,7 +108,7 @@ fn less_at(heap: &[u8], i: usize, j: usize) -> bool
 
 // The place of the lesser of the entries at a and a + 1, of equal ones a, with no branch on which it is.
 fn lesser(heap: &[u8], a: usize) -> usize
-    requires { ⌜ 32 * a + 64 ≤ length (now heap) ⌝ }
+    requires { ⌜ entryWidth * a + 2 * entryWidth ≤ length (now heap) ⌝ }
     ensures { λ r. ⌜ r ≡ firstLeast (keyIn (now (heap .entry))) a 1 ⌝ }
 {
     a + less_at(heap, a + 1, a) as usize
@@ -111,7 +116,7 @@ fn lesser(heap: &[u8], a: usize) -> usize
 
 // The place of the least of the four entries from a on, the first of equal ones.
 fn least_of_four(heap: &[u8], a: usize) -> usize
-    requires { ⌜ 32 * a + 128 ≤ length (now heap) ⌝ }
+    requires { ⌜ entryWidth * a + 4 * entryWidth ≤ length (now heap) ⌝ }
     ensures { λ r. ⌜ r ≡ firstLeast (keyIn (now (heap .entry))) a 3 ⌝ }
 {
     let b = lesser(heap, a);
@@ -121,7 +126,7 @@ fn least_of_four(heap: &[u8], a: usize) -> usize
 
 // The place of the least child of i, which has one at least; the first of equal ones.
 fn least_child(heap: &[u8], size: usize, i: usize) -> usize
-    requires { ⌜ (4 * i + 1 < size) × (32 * size ≤ length (now heap)) ⌝ }
+    requires { ⌜ (4 * i + 1 < size) × (entryWidth * size ≤ length (now heap)) ⌝ }
     ensures { λ r. ⌜ r ≡ childIn (now (heap .entry)) size i ⌝ }
 {
     let first = 4 * i + 1;
@@ -141,7 +146,7 @@ fn least_child(heap: &[u8], size: usize, i: usize) -> usize
 
 // Moves the hole at place 0 down to where it has no child, always to the least one; answers that place.
 fn dig(heap: &mut [u8], size: usize) -> usize
-    requires { ⌜ (0 < size) × (32 * size ≤ length (now heap)) ⌝ }
+    requires { ⌜ (0 < size) × (entryWidth * size ≤ length (now heap)) ⌝ }
     ensures { λ r. ⌜ (now (heap .exit), r) ≡ dugIn size (now (heap .entry)) size 0 ⌝ }
 {
     let mut hole = 0;
@@ -155,7 +160,7 @@ fn dig(heap: &mut [u8], size: usize) -> usize
 
 // Moves the hole up until e fits into it, and puts e there.
 fn rise(heap: &mut [u8], size: usize, start: usize, e: Entry)
-    requires { ⌜ (start < size) × (32 * size ≤ length (now heap)) ⌝ }
+    requires { ⌜ (start < size) × (entryWidth * size ≤ length (now heap)) ⌝ }
     ensures { λ _. ⌜ now (heap .exit) ≡ risenIn start (now (heap .entry)) start e ⌝ }
 {
     let mut hole = start;
@@ -174,7 +179,7 @@ fn rise(heap: &mut [u8], size: usize, start: usize, e: Entry)
 
 // Adds e to the entries that wait: where they are a heap they stay one (pushed-in).
 pub fn push(heap: &mut [u8], size: usize, e: Entry)
-    requires { ⌜ 32 * (size + 1) ≤ length (now heap) ⌝ }
+    requires { ⌜ entryWidth * (size + 1) ≤ length (now heap) ⌝ }
     ensures { λ _. ⌜ now (heap .exit) ≡ pushIn (now (heap .entry)) size e ⌝ }
 {
     rise(heap, size + 1, size, e);
@@ -182,7 +187,7 @@ pub fn push(heap: &mut [u8], size: usize, e: Entry)
 
 // The first of the entries that wait, which stays.
 pub fn first(heap: &[u8], size: usize) -> Entry
-    requires { ⌜ (0 < size) × (32 * size ≤ length (now heap)) ⌝ }
+    requires { ⌜ (0 < size) × (entryWidth * size ≤ length (now heap)) ⌝ }
     ensures { λ r. ⌜ r ≡ entryAt (now (heap .entry)) 0 ⌝ }
 {
     entry_at(heap, 0)
@@ -190,7 +195,7 @@ pub fn first(heap: &[u8], size: usize) -> Entry
 
 // Takes the first of the entries that wait: where they are a heap, the least (popped-in).
 pub fn pop(heap: &mut [u8], size: usize) -> Entry
-    requires { ⌜ (0 < size) × (32 * size ≤ length (now heap)) ⌝ }
+    requires { ⌜ (0 < size) × (entryWidth * size ≤ length (now heap)) ⌝ }
     ensures { λ r. ⌜ (r ≡ entryAt (now (heap .entry)) 0) × (now (heap .exit) ≡ popIn (now (heap .entry)) size) ⌝ }
 {
     let least = entry_at(heap, 0);

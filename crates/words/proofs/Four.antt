@@ -1,4 +1,4 @@
--- A word of four bytes, written out as the code reads and stores it. Assumes nothing.
+-- A word of four bytes, written out as the code reads and stores it.
 use mathlib.Core.Path.{_≡_}
 use mathlib.Core.List.{List, [], _∷_}
 use Prim.Native.Nat.{ℕ, suc, _+_, _/_, _%_, _≤_, _<_}

@@ -1,4 +1,4 @@
--- A word of one byte, by which a word of two is read and stored. Assumes nothing.
+-- A word of one byte, by which a word of two is read and stored.
 use mathlib.Core.Path.{_≡_, refl}
 use mathlib.Core.List.{List, [], _∷_}
 use Prim.Native.Nat.{ℕ, _+_, _*_, _/_, _%_, _≤_, _<_}
@@ -6,7 +6,7 @@ use native.Mathlib.Omega.{arith}
 use lib.ListN.{length, getD, set}
 use lib.Seq.{drop-cons}
 use Rattle.words.specs.Word.{Order, big, little, lowDigits, number, ordered, bytesOf, word, stored}
-use Rattle.words.specs.Laws.{word-split-big, stored-split-big}
+use Rattle.words.proofs.Laws.{word-split-big, stored-split-big}
 
 one-ordered : (o : Order) (x : ℕ) → ordered o (x ∷ []) ≡ x ∷ []
 unfolding ordered

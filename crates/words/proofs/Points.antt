@@ -1,4 +1,4 @@
--- Known points: the number 16909060 is 1 * 256^3 + 2 * 256^2 + 3 * 256 + 4. Assumes nothing.
+-- Known points: the number 16909060 is 1 * 256^3 + 2 * 256^2 + 3 * 256 + 4.
 use mathlib.Core.Path.{_≡_, refl}
 use mathlib.Core.List.{List, [], _∷_}
 use Prim.Native.Nat.{ℕ}

@@ -1,6 +1,6 @@
 -- Words of n bytes in a list of bytes, in both byte orders. Document 01 writes the survey file, the layers and the ids "Big-endian";
--- workspaces are little-endian, which is our own decision. Definitions only. Assumes nothing.
-use Prim.Native.Nat.{ℕ, zero, suc, _+_, _-_, _*_, _/_, _%_, _<_}
+-- workspaces are little-endian, which is our own decision. Definitions only.
+use Prim.Native.Nat.{ℕ, zero, suc, _+_, _*_, _/_, _%_, _<_}
 use mathlib.Core.List.{List, [], _∷_, reverse}
 use lib.ListN.{take, drop, getD}
 use lib.Seq.{sets}
@@ -40,7 +40,3 @@ stored o n l p v = sets l p (bytesOf o n v)
 -- every element is a byte (past the end stands 0)
 abbrev pub Bytes : List ℕ → Type 0
 Bytes l = (i : ℕ) → getD l i 0 < 256
-
--- n bytes at p and m bytes at q do not overlap: one of the differences, which are 0 where they would be negative, is not 0
-abbrev pub Apart : ℕ → ℕ → ℕ → ℕ → Type 0
-Apart p n q m = 0 < (p + 1 - (q + m)) + (q + 1 - (p + n))

@@ -7,6 +7,8 @@ ghost use lib.ListN.{length};
 ghost use lib.Seq.{sets};
 ghost use Rattle.words.specs.Word.{big, little, word, stored};
 
+pub mod bytes;
+
 // A byte as a number of 32 bits.
 fn wide(byte: u8) -> u32
     ensures { λ r. ⌜ (r ≡ byte) × (r < 256) ⌝ }

@@ -1,8 +1,8 @@
--- Two answers that meet a contract of the way back agree, and so do the outputs that they leave, whatever the bytes were. Assumes nothing.
+-- Two answers that meet a contract of the way back agree, and so do the outputs that they leave, whatever the bytes were.
 use mathlib.Core.Path.{ap, sym, _∙_}
 use denote.Ref.{at-last}
-use Rattle.refusal.specs.OneAnswer.{OneAnswer, OneExit}
-use Rattle.layer.specs.Changes.{Changed}
+use Rattle.general.specs.OneAnswer.{OneAnswer, OneExit}
+use Rattle.general.specs.Changed.{Changed}
 use Rattle.search.specs.declared.SearchAnswer.{SearchAnswer}
 use Rattle.astar.proofs.way as here
 

@@ -6,7 +6,7 @@ use Prim.Native.Nat.{ℕ, _-_, _<_}
 use Rattle.refusal.specs.declared.Cell.{Cell}
 use Rattle.cell.specs.declared.CellAnswer.the-variants.{Is}
 use Rattle.cell.specs.Cell.{resolutionOf, parentOf}
-use Rattle.cell.specs.Ancestors.{parent-resolution, ancestor-finer, ancestor-own, ancestor-refused, ancestor-parent}
+use Rattle.cell.proofs.Ancestors.{parent-resolution, ancestor-finer, ancestor-own, ancestor-refused, ancestor-parent}
 use borrow.Fn.Kinds.{In}
 use borrow.Fn.PlainCycle.{Measures, is, falls, and}
 use Rattle.cell.proofs.ancestor.Reads as ancestor

@@ -14,10 +14,12 @@ use Rattle.lattice.proofs.NumberAnswer.{the-type}
 use Rattle.lattice.specs.declared.NumberAnswer.{NumberAnswer}
 use Rattle.lattice.specs.declared.NumberAnswer.the-variants as number
 use Rattle.lattice.specs.declared.ParityAnswer.{ParityAnswer}
-use Rattle.lattice.specs.Lattice.{parityOf, manhattan, manhattanBy, manhattanOf}
+use Rattle.lattice.specs.Lattice.{parityOf, manhattan, manhattanOf}
+use Rattle.lattice.proofs.Split.{manhattanBy}
 use Rattle.cell.specs.declared.Between.{Between}
 use Rattle.cell.specs.declared.Between.the-variants.{Nothing, Refused}
-use Rattle.cell.specs.Cell.{resolutionOf, betweenBy, betweenOf}
+use Rattle.cell.specs.Cell.{resolutionOf, betweenOf}
+use Rattle.cell.proofs.Split.{betweenBy}
 use Rattle.cell.proofs.cell_between.Statement.{statement}
 use Rattle.cell.proofs.cell_between.Tie as tie
 
@@ -73,51 +75,9 @@ far : (fits : Bool) (n : ℕ) (r : Refusal) → number.Refused r ≡ measured fi
 far true n r e = let z : _≡_ {A = ℕ} 0 1 = cc in absurd (omega arith)
 far false n r e = let same : r ≡ CoordOverflow = cc in ap Refused same
 
-resolution-requires : tie.Need-resolution-requires
-resolution-requires c κs = search needs
-
-resolution-requires-2 : tie.Need-resolution-requires-2
-resolution-requires-2 c κs = search needs
-
 returns : tie.Need-returns
 unfolding betweenOf
 returns c = rw (ne-eqb _ _ (λ e. c .if1 .taken (c .before .before .resolution .ensures ∙ e ∙ sym (c .before .resolution2 .ensures))))
-
-coord-requires : tie.Need-coord-requires
-coord-requires c κs = search needs
-
-coord-requires-2 : tie.Need-coord-requires-2
-coord-requires-2 c κs = search needs
-
-parity-of-requires : tie.Need-parity-of-requires
-parity-of-requires c κs = search needs
-
-parity-of-requires-2 : tie.Need-parity-of-requires-2
-parity-of-requires-2 c κs = search needs
-
-enum-known-first : tie.Need-enum-known-first
-enum-known-first c = search needs
-
-enum-known-first-2 : tie.Need-enum-known-first-2
-enum-known-first-2 c = search needs
-
-enum-known-second : tie.Need-enum-known-second
-enum-known-second c = search needs
-
-enum-known-second-2 : tie.Need-enum-known-second-2
-enum-known-second-2 c = search needs
-
-alike-requires : tie.Need-alike-requires
-alike-requires c κs = search needs
-
-manhattan-distance-to-requires : tie.Need-manhattan-distance-to-requires
-manhattan-distance-to-requires c κs = search needs
-
-enum-told : tie.Need-enum-told
-enum-told c = search needs
-
-enum-known-apart : tie.Need-enum-known-apart
-enum-known-apart c = search needs
 
 returns-2 : tie.Need-returns-2
 returns-2 c = by-parities (c .before .before .before) (c .before .first .given .1) refl
@@ -146,21 +106,21 @@ pub cell-between-spec : {M : Type 1} → statement M
 cell-between-spec =
     tie.close
     (tie.spec
-    resolution-requires
-    resolution-requires-2
+    (λ c κs. search needs)
+    (λ c κs. search needs)
     returns
-    coord-requires
-    coord-requires-2
-    parity-of-requires
-    parity-of-requires-2
-    enum-known-first
-    enum-known-first-2
-    enum-known-second
-    enum-known-second-2
-    alike-requires
-    manhattan-distance-to-requires
-    enum-told
-    enum-known-apart
+    (λ c κs. search needs)
+    (λ c κs. search needs)
+    (λ c κs. search needs)
+    (λ c κs. search needs)
+    (λ c. search needs)
+    (λ c. search needs)
+    (λ c. search needs)
+    (λ c. search needs)
+    (λ c κs. search needs)
+    (λ c κs. search needs)
+    (λ c. search needs)
+    (λ c. search needs)
     returns-2
     returns-3
     returns-4

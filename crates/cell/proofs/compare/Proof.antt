@@ -5,15 +5,9 @@ use Rattle.cell.specs.Cell.{orderOf}
 use Rattle.cell.proofs.compare.Statement.{statement}
 use Rattle.cell.proofs.compare.Tie as tie
 
-less-requires : tie.Need-less-requires
-less-requires c κs = search needs
-
 returns : tie.Need-returns
 unfolding orderOf
 returns c = rw (sym (c .before .less .ensures) ∙ c .if1 .taken)
-
-same-requires : tie.Need-same-requires
-same-requires c κs = search needs
 
 returns-2 : tie.Need-returns-2
 unfolding orderOf
@@ -24,4 +18,4 @@ unfolding orderOf
 returns-3 c = rw (sym (c .before .before .before .less .ensures) ∙ c .before .before .if1 .left, sym (c .before .same .ensures) ∙ c .if2 .left)
 
 pub compare-spec : {M : Type 1} → statement M
-compare-spec = tie.close (tie.spec less-requires returns same-requires returns-2 returns-3)
+compare-spec = tie.close (tie.spec (λ c κs. search needs) returns (λ c κs. search needs) returns-2 returns-3)

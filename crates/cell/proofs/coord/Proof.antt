@@ -1,18 +1,9 @@
 -- Field by field: each is the number that its function gave.
 use borrow.Author.Needs.{needs}
-use Rattle.lattice.specs.Fields.{put}
+use Rattle.lattice.proofs.Fields.{put}
 use Rattle.cell.specs.Cell.{coordOf}
 use Rattle.cell.proofs.coord.Statement.{statement}
 use Rattle.cell.proofs.coord.Tie as tie
-
-x-requires : tie.Need-x-requires
-x-requires c κs = search needs
-
-y-requires : tie.Need-y-requires
-y-requires c κs = search needs
-
-z-requires : tie.Need-z-requires
-z-requires c κs = search needs
 
 returns : tie.Need-returns
 unfolding coordOf
@@ -23,4 +14,4 @@ returns c =
     λ i. record { x = ex i; y = ey i; z = ez i }
 
 pub coord-spec : {M : Type 1} → statement M
-coord-spec = tie.close (tie.spec x-requires y-requires z-requires returns)
+coord-spec = tie.close (tie.spec (λ c κs. search needs) (λ c κs. search needs) (λ c κs. search needs) returns)

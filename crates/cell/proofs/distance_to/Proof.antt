@@ -5,18 +5,9 @@ use Rattle.distance.specs.Distance.{distanceOf}
 use Rattle.cell.proofs.distance_to.Statement.{statement}
 use Rattle.cell.proofs.distance_to.Tie as tie
 
-coord-requires : tie.Need-coord-requires
-coord-requires c κs = search needs
-
-coord-requires-2 : tie.Need-coord-requires-2
-coord-requires-2 c κs = search needs
-
-distance-to-requires : tie.Need-distance-to-requires
-distance-to-requires c κs = search needs
-
 returns : tie.Need-returns
 returns c = c .distance-to .ensures ∙ (λ i. distanceOf (c .before .before .coord .ensures i) (c .before .coord2 .ensures i))
 
 pub distance-to-spec : {M : Type 1} → statement M
 distance-to-spec =
-    tie.close (tie.spec coord-requires coord-requires-2 distance-to-requires returns)
+    tie.close (tie.spec (λ c κs. search needs) (λ c κs. search needs) (λ c κs. search needs) returns)

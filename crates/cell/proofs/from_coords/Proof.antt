@@ -3,12 +3,9 @@ use borrow.Author.Needs.{needs}
 use mathlib.Core.Path.{_∙_, ap}
 use Rattle.refusal.specs.declared.Coord.{Coord}
 use Rattle.cell.specs.Cell.{newOf}
-use Rattle.lattice.specs.Fields.{kept-same}
+use Rattle.lattice.proofs.Fields.{kept-same}
 use Rattle.cell.proofs.from_coords.Statement.{statement}
 use Rattle.cell.proofs.from_coords.Tie as tie
-
-new-requires : tie.Need-new-requires
-new-requires c κs = search needs
 
 returns : tie.Need-returns
 returns c =
@@ -17,4 +14,4 @@ returns c =
     ∙ ap (λ (p : Coord). newOf (s .args .frame) (s .args .resolution) p 0 0) (kept-same (record { in-x = s .fits .x; in-y = s .fits .y; in-z = s .fits .z }))
 
 pub from-coords-spec : {M : Type 1} → statement M
-from-coords-spec = tie.close (tie.spec new-requires returns)
+from-coords-spec = tie.close (tie.spec (λ c κs. search needs) returns)

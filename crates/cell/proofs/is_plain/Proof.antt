@@ -6,15 +6,6 @@ use Rattle.cell.specs.Cell.{isPlain}
 use Rattle.cell.proofs.is_plain.Statement.{statement}
 use Rattle.cell.proofs.is_plain.Tie as tie
 
-exponent-requires : tie.Need-exponent-requires
-exponent-requires c κs = search needs
-
-flags-requires : tie.Need-flags-requires
-flags-requires c κs = search needs
-
-reserved-requires : tie.Need-reserved-requires
-reserved-requires c κs = search needs
-
 returns : tie.Need-returns
 unfolding isPlain
 returns c =
@@ -35,4 +26,4 @@ returns-3 c = rw (ne-eqb _ 0 (λ e. c .if1 .left (c .before .exponent .ensures �
 pub is-plain-spec : {M : Type 1} → statement M
 is-plain-spec =
     tie.close
-    (tie.spec exponent-requires flags-requires reserved-requires returns returns-2 returns-3)
+    (tie.spec (λ c κs. search needs) (λ c κs. search needs) (λ c κs. search needs) returns returns-2 returns-3)

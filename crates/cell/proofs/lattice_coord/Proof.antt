@@ -2,22 +2,11 @@
 use borrow.Author.Needs.{needs}
 use mathlib.Core.Path.{sym, _∙_, ap}
 use Rattle.lattice.specs.Lattice.{parityOf}
-use Rattle.cell.specs.Cell.{coordBy, latticeCoordOf}
+use Rattle.cell.proofs.Split.{coordBy}
+use Rattle.cell.specs.Cell.{latticeCoordOf}
 use Rattle.lattice.proofs.Answers.{answered}
 use Rattle.cell.proofs.lattice_coord.Statement.{statement}
 use Rattle.cell.proofs.lattice_coord.Tie as tie
-
-coord-requires : tie.Need-coord-requires
-coord-requires c κs = search needs
-
-parity-of-requires : tie.Need-parity-of-requires
-parity-of-requires c κs = search needs
-
-enum-told : tie.Need-enum-told
-enum-told c = search needs
-
-enum-known-p : tie.Need-enum-known-p
-enum-known-p c = search needs
 
 returns : tie.Need-returns
 unfolding latticeCoordOf
@@ -36,4 +25,4 @@ returns-2 c =
 
 pub lattice-coord-spec : {M : Type 1} → statement M
 lattice-coord-spec =
-    tie.close (tie.spec coord-requires parity-of-requires enum-told enum-known-p returns returns-2)
+    tie.close (tie.spec (λ c κs. search needs) (λ c κs. search needs) (λ c. search needs) (λ c. search needs) returns returns-2)

@@ -3,12 +3,9 @@ use borrow.Author.Needs.{needs}
 use mathlib.Core.Path.{_∙_, ap}
 use Rattle.refusal.specs.declared.Coord.{Coord}
 use Rattle.cell.specs.Cell.{newOf}
-use Rattle.lattice.specs.Fields.{kept-same}
+use Rattle.lattice.proofs.Fields.{kept-same}
 use Rattle.cell.proofs.new.Statement.{statement}
 use Rattle.cell.proofs.new.Tie as tie
-
-new-at-requires : tie.Need-new-at-requires
-new-at-requires c κs = search needs
 
 returns : tie.Need-returns
 returns c =
@@ -17,4 +14,4 @@ returns c =
     ∙ ap (λ (p : Coord). newOf (s .args .frame) (s .args .resolution) p (s .args .exponent) (s .args .flags)) (kept-same (record { in-x = s .fits .x; in-y = s .fits .y; in-z = s .fits .z }))
 
 pub new-spec : {M : Type 1} → statement M
-new-spec = tie.close (tie.spec new-at-requires returns)
+new-spec = tie.close (tie.spec (λ c κs. search needs) returns)

@@ -3,22 +3,11 @@ use borrow.Author.Needs.{needs}
 use mathlib.Core.Path.{sym, _∙_, ap}
 use Rattle.lattice.specs.declared.ParityAnswer.{ParityAnswer}
 use Rattle.cell.specs.declared.CellAnswer.the-variants.{Is}
-use Rattle.cell.specs.Cell.{packed, newBy, newOf}
+use Rattle.cell.specs.Cell.{packed, newOf}
+use Rattle.cell.proofs.Split.{newBy}
 use Rattle.lattice.proofs.Answers.{answered}
 use Rattle.cell.proofs.new_at.Statement.{statement}
 use Rattle.cell.proofs.new_at.Tie as tie
-
-parity-of-requires : tie.Need-parity-of-requires
-parity-of-requires c κs = search needs
-
-enum-told : tie.Need-enum-told
-enum-told c = search needs
-
-packed-requires : tie.Need-packed-requires
-packed-requires c κs = search needs
-
-enum-known-p : tie.Need-enum-known-p
-enum-known-p c = search needs
 
 returns : tie.Need-returns
 unfolding newOf
@@ -38,4 +27,4 @@ returns-2 c =
 pub new-at-spec : {M : Type 1} → statement M
 new-at-spec =
     tie.close
-    (tie.spec parity-of-requires enum-told packed-requires enum-known-p returns returns-2)
+    (tie.spec (λ c κs. search needs) (λ c. search needs) (λ c κs. search needs) (λ c. search needs) returns returns-2)

@@ -8,7 +8,7 @@ use Rattle.lattice.specs.declared.CoordAnswer.{CoordAnswer}
 use Rattle.lattice.specs.Lattice as lattice
 use Rattle.cell.specs.declared.CellAnswer.the-variants.{Is}
 use Rattle.cell.specs.Cell.{resolutionOf, coordOf, plainAt, parentAt, parentOf}
-use Rattle.cell.specs.Laws.{parent-by-place}
+use Rattle.cell.proofs.Laws.{parent-by-place}
 use Rattle.cell.proofs.parent.Statement.{statement}
 use Rattle.cell.proofs.parent.Tie as tie
 
@@ -17,33 +17,9 @@ by-place c l fine place up known =
     ap (λ (p : CoordAnswer). parentAt p c) (sym known ∙ up ∙ ap lattice.parentOf place)
     ∙ sym (parent-by-place c (λ e. fine (l ∙ e)))
 
-resolution-requires : tie.Need-resolution-requires
-resolution-requires c κs = search needs
-
 returns : tie.Need-returns
 unfolding parentOf
 returns c = rw (sym (c .before .resolution .ensures) ∙ c .if1 .taken)
-
-coord-requires : tie.Need-coord-requires
-coord-requires c κs = search needs
-
-get-parent-requires : tie.Need-get-parent-requires
-get-parent-requires c κs = search needs
-
-enum-known-place : tie.Need-enum-known-place
-enum-known-place c = search needs
-
-enum-known-place-2 : tie.Need-enum-known-place-2
-enum-known-place-2 c = search needs
-
-frame-requires : tie.Need-frame-requires
-frame-requires c κs = search needs
-
-sub-plain : tie.Need-sub-plain
-sub-plain c = search needs
-
-plain-requires : tie.Need-plain-requires
-plain-requires c κs = search needs
 
 returns-2 : tie.Need-returns-2
 returns-2 c =
@@ -65,14 +41,14 @@ pub parent-spec : {M : Type 1} → statement M
 parent-spec =
     tie.close
     (tie.spec
-    resolution-requires
+    (λ c κs. search needs)
     returns
-    coord-requires
-    get-parent-requires
-    enum-known-place
-    enum-known-place-2
-    frame-requires
-    sub-plain
-    plain-requires
+    (λ c κs. search needs)
+    (λ c κs. search needs)
+    (λ c. search needs)
+    (λ c. search needs)
+    (λ c κs. search needs)
+    (λ c. search needs)
+    (λ c κs. search needs)
     returns-2
     returns-3)

@@ -3,8 +3,8 @@ use native.Mathlib.Omega.{arith}
 use mathlib.Core.Path.{_∙_, ap}
 use Prim.Native.Nat.{ℕ, _+_, _*_, _^_}
 use lib.Dec.{eqb}
-use Rattle.refusal.specs.Table.{rawOf}
-use Rattle.cell.specs.Bits.{same-low, same-high}
+use Rattle.refusal.specs.Refusals.{rawOf}
+use Rattle.cell.proofs.Bits.{same-low, same-high}
 use Rattle.cell.proofs.same.Statement.{statement}
 use Rattle.cell.proofs.same.Tie as tie
 

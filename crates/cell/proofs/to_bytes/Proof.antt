@@ -1,18 +1,12 @@
 -- The bytes of both words, one after the other, fill the array.
 use borrow.Author.Needs.{needs}
 use mathlib.Core.Path.{refl, _∙_}
-use Rattle.cell.specs.BytesLaws.{cell-stored-whole}
+use Rattle.cell.proofs.BytesLaws.{cell-stored-whole}
 use Rattle.cell.proofs.to_bytes.Statement.{statement}
 use Rattle.cell.proofs.to_bytes.Tie as tie
-
-slice-aggregate-write-at : tie.Need-slice-aggregate-write-at
-slice-aggregate-write-at c = search needs
-
-write-at-requires : tie.Need-write-at-requires
-write-at-requires c κs = search needs
 
 returns : tie.Need-returns
 returns c = c .before .write-at .ensures ∙ cell-stored-whole _ (c .before .before .before .args .c) refl
 
 pub to-bytes-spec : {M : Type 1} → statement M
-to-bytes-spec = tie.close (tie.spec slice-aggregate-write-at write-at-requires returns)
+to-bytes-spec = tie.close (tie.spec (λ c. search needs) (λ c κs. search needs) returns)

@@ -6,7 +6,7 @@ use lib.Signed.{leZ}
 use mir.Syntax.{w32, w64}
 use mir.Val.{toZ, ofZ}
 use mir.Facts.{toZ-ofZ}
-use Rattle.lattice.specs.Fields.{wide-fits, widened, difference-fits}
+use Rattle.lattice.proofs.Fields.{wide-fits, widened, difference-fits}
 use Rattle.distance.proofs.difference_fits.Statement.{statement}
 use Rattle.distance.proofs.difference_fits.Tie as tie
 

@@ -2,19 +2,10 @@
 use borrow.Author.Needs.{needs}
 use mathlib.Core.Path.{_≡_, sym, _∙_}
 use mathlib.Core.Bool.{_&&_}
-use Rattle.lattice.specs.Fields.{read}
+use Rattle.lattice.proofs.Fields.{read}
 use Rattle.distance.specs.Distance.{differenceFits, differencesFit}
 use Rattle.distance.proofs.differences_fit.Statement.{statement}
 use Rattle.distance.proofs.differences_fit.Tie as tie
-
-difference-fits-requires : tie.Need-difference-fits-requires
-difference-fits-requires c κs = search needs
-
-difference-fits-requires-2 : tie.Need-difference-fits-requires-2
-difference-fits-requires-2 c κs = search needs
-
-difference-fits-requires-3 : tie.Need-difference-fits-requires-3
-difference-fits-requires-3 c κs = search needs
 
 returns : tie.Need-returns
 unfolding differencesFit
@@ -55,9 +46,9 @@ pub differences-fit-spec : {M : Type 1} → statement M
 differences-fit-spec =
     tie.close
     (tie.spec
-    difference-fits-requires
-    difference-fits-requires-2
-    difference-fits-requires-3
+    (λ c κs. search needs)
+    (λ c κs. search needs)
+    (λ c κs. search needs)
     returns
     returns-2
     returns-3)

@@ -6,15 +6,10 @@ use Rattle.lattice.specs.declared.ParityAnswer.{ParityAnswer}
 use Rattle.lattice.specs.Lattice.{parityOf}
 use Rattle.root.specs.declared.Root.{Root}
 use Rattle.root.specs.Root.{rootOf}
-use Rattle.distance.specs.Distance.{rooted, distanceIn, distanceBy, distanceOf}
+use Rattle.distance.specs.Distance.{rooted, distanceOf}
+use Rattle.distance.proofs.Split.{distanceIn, distanceBy}
 use Rattle.distance.proofs.distance_to.Statement.{statement}
 use Rattle.distance.proofs.distance_to.Tie as tie
-
-parity-of-requires : tie.Need-parity-of-requires
-parity-of-requires c κs = search needs
-
-enum-known-r : tie.Need-enum-known-r
-enum-known-r c = search needs
 
 returns : tie.Need-returns
 unfolding distanceOf
@@ -22,15 +17,6 @@ returns c =
     let first = c .before .before .before in
     let start = first .before in
     ap (λ (p : ParityAnswer). distanceBy p (parityOf (start .args .b)) (start .args .a) (start .args .b)) (sym (c .before .r .given .1) ∙ first .parity-of .ensures)
-
-enum-told : tie.Need-enum-told
-enum-told c = search needs
-
-parity-of-requires-2 : tie.Need-parity-of-requires-2
-parity-of-requires-2 c κs = search needs
-
-enum-known-r-2 : tie.Need-enum-known-r-2
-enum-known-r-2 c = search needs
 
 returns-2 : tie.Need-returns-2
 unfolding distanceOf
@@ -43,23 +29,8 @@ returns-2 c =
     let q = sym (c .before .r2 .given .1) ∙ second .parity-of2 .ensures in
     (λ i. distanceBy (p i) (q i) (start .args .a) (start .args .b))
 
-enum-told-2 : tie.Need-enum-told-2
-enum-told-2 c = search needs
-
-differences-fit-requires : tie.Need-differences-fit-requires
-differences-fit-requires c κs = search needs
-
 squared-distance-requires : tie.Need-squared-distance-requires
 squared-distance-requires c κs = sym (c .before .differences-fit .ensures) ∙ c .if1 .taken
-
-square-root-requires : tie.Need-square-root-requires
-square-root-requires c κs = search needs
-
-enum-known-d : tie.Need-enum-known-d
-enum-known-d c = search needs
-
-enum-known-r-3 : tie.Need-enum-known-r-3
-enum-known-r-3 c = search needs
 
 abbrev start : tie.After-differences-fit → tie.Start
 start c = c .before .before .before .before .before .before .before
@@ -94,19 +65,19 @@ pub distance-to-spec : {M : Type 1} → statement M
 distance-to-spec =
     tie.close
     (tie.spec
-    parity-of-requires
-    enum-known-r
+    (λ c κs. search needs)
+    (λ c. search needs)
     returns
-    enum-told
-    parity-of-requires-2
-    enum-known-r-2
+    (λ c. search needs)
+    (λ c κs. search needs)
+    (λ c. search needs)
     returns-2
-    enum-told-2
-    differences-fit-requires
+    (λ c. search needs)
+    (λ c κs. search needs)
     squared-distance-requires
-    square-root-requires
-    enum-known-d
-    enum-known-r-3
+    (λ c κs. search needs)
+    (λ c. search needs)
+    (λ c. search needs)
     returns-3
     returns-4
     returns-5)

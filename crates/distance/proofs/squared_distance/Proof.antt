@@ -1,10 +1,11 @@
 -- The differences fit, as the test says, so that each square is that of the definition.
 use mathlib.Core.Path.{sym, _∙_, subst}
 use lib.Ieee.{binary64, add}
-use Rattle.lattice.specs.Fields.{read, kept}
+use Rattle.lattice.proofs.Fields.{read, kept}
 use Rattle.lattice.specs.Lattice.{Fitting}
 use Rattle.distance.specs.Distance.{squareApart, squaredDistance}
-use Rattle.distance.specs.Laws.{difference, differences-fit}
+use Rattle.distance.specs.Inner.Differences.{difference}
+use Rattle.distance.proofs.Laws.{differences-fit}
 use Rattle.distance.proofs.squared_distance.Statement.{statement}
 use Rattle.distance.proofs.squared_distance.Tie as tie
 

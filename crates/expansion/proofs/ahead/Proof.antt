@@ -23,18 +23,6 @@ ahead-is a b r d e h = (ap is h ∙ ap distanceBits e, subst Cost (sym h) (dista
 ahead-refused : (a b : Coord) (r : Refusal) → distance.Refused r ≡ distanceOf a b → (toldAhead (estimate.Refused r) ≡ distanceBits (distanceOf a b)) × SoundAhead (estimate.Refused r)
 ahead-refused a b r e = (ap distanceBits e, tt)
 
-distance-to-requires : tie.Need-distance-to-requires
-distance-to-requires c κs = search needs
-
-enum-known-d : tie.Need-enum-known-d
-enum-known-d c = search needs
-
-bits-requires : tie.Need-bits-requires
-bits-requires c κs = search needs
-
-enum-known-r : tie.Need-enum-known-r
-enum-known-r c = search needs
-
 returns : tie.Need-returns
 returns c =
     let at-d = c .before .before in
@@ -47,4 +35,4 @@ returns-2 c = ahead-refused _ _ _ (rw ((c .before .r) .given .1) at ((c .before 
 pub ahead-spec : {M : Type 1} → statement M
 ahead-spec =
     tie.close
-    (tie.spec distance-to-requires enum-known-d bits-requires enum-known-r returns returns-2)
+    (tie.spec (λ c κs. search needs) (λ c. search needs) (λ c κs. search needs) (λ c. search needs) returns returns-2)

@@ -4,14 +4,8 @@ use borrow.Author.Needs.{needs}
 use Rattle.expansion.proofs.cost.Statement.{statement}
 use Rattle.expansion.proofs.cost.Tie as tie
 
-step-cost-requires : tie.Need-step-cost-requires
-step-cost-requires c κs = search needs
-
-bits-requires : tie.Need-bits-requires
-bits-requires c κs = search needs
-
 returns : tie.Need-returns
 returns c = step-is _ _ _ _ ((c .before .step-cost) .ensures) ((c .bits) .ensures)
 
 pub cost-spec : {M : Type 1} → statement M
-cost-spec = tie.close (tie.spec step-cost-requires bits-requires returns)
+cost-spec = tie.close (tie.spec (λ c κs. search needs) (λ c κs. search needs) returns)

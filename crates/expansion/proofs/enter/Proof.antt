@@ -1,7 +1,7 @@
 -- The limit, the goal, neighbours that are refused, or all fourteen.
 use mathlib.Core.Path.{sym, _∙_}
-use Rattle.layer.specs.Layer.{rowsOf}
-use Rattle.expansion.specs.BytesLaws.{entered-spent, entered-goal, entered-by}
+use Rattle.table.specs.Records.{rowsOf}
+use Rattle.expansion.proofs.BytesLaws.{entered-spent, entered-goal, entered-by}
 use borrow.Author.Needs.{needs}
 use Rattle.expansion.proofs.enter.Statement.{statement}
 use Rattle.expansion.proofs.enter.Tie as tie
@@ -17,15 +17,6 @@ returns c =
     let rows = rowsOf 20 (args .flags .now) (args .count) in
     sym (entered-spent p rows w heap z (args .at) (args .g) (c .if1 .taken))
 
-cell-at-requires : tie.Need-cell-at-requires
-cell-at-requires c κs = search needs
-
-same-requires : tie.Need-same-requires
-same-requires c κs = search needs
-
-same-length : tie.Need-same-length
-same-length c = search needs
-
 returns-2 : tie.Need-returns-2
 returns-2 c =
     let at-same = c .before in
@@ -39,21 +30,6 @@ returns-2 c =
     let z = args .sizes in
     let rows = rowsOf 20 (args .flags .now) (args .count) in
     sym (entered-goal p rows w heap z (args .at) (args .g) (at-if1 .if1 .left) _ (at-cell-at .cell-at .ensures) (sym (at-same .same .ensures) ∙ c .if2 .taken))
-
-get-neighbors-requires : tie.Need-get-neighbors-requires
-get-neighbors-requires c κs = search needs
-
-enum-known-outcome : tie.Need-enum-known-outcome
-enum-known-outcome c = search needs
-
-enum-told : tie.Need-enum-told
-enum-told c = search needs
-
-relax-all-requires : tie.Need-relax-all-requires
-relax-all-requires c κs = search needs
-
-same-length-2 : tie.Need-same-length-2
-same-length-2 c = search needs
 
 returns-3 : tie.Need-returns-3
 returns-3 c =
@@ -71,12 +47,6 @@ returns-3 c =
     let z = args .sizes in
     let rows = rowsOf 20 (args .flags .now) (args .count) in
     sym (entered-by p rows w heap z (args .at) (args .g) (at-if1 .if1 .left) _ (at-cell-at .cell-at .ensures) (sym (at-same .same .ensures) ∙ at-if2 .if2 .left) _ (at-get-neighbors .get-neighbors .ensures) _ (at-outcome .outcome .given .1))
-
-same-length-3 : tie.Need-same-length-3
-same-length-3 c = search needs
-
-same-length-4 : tie.Need-same-length-4
-same-length-4 c = search needs
 
 returns-4 : tie.Need-returns-4
 returns-4 c =
@@ -101,16 +71,16 @@ enter-spec =
     tie.close
     (tie.spec
     returns
-    cell-at-requires
-    same-requires
-    same-length
+    (λ c κs. search needs)
+    (λ c κs. search needs)
+    (λ c. search needs)
     returns-2
-    get-neighbors-requires
-    enum-known-outcome
-    enum-told
-    relax-all-requires
-    same-length-2
+    (λ c κs. search needs)
+    (λ c. search needs)
+    (λ c. search needs)
+    (λ c κs. search needs)
+    (λ c. search needs)
     returns-3
-    same-length-3
-    same-length-4
+    (λ c. search needs)
+    (λ c. search needs)
     returns-4)

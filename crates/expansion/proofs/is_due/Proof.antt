@@ -1,8 +1,8 @@
 -- Nothing waits, or the first entry's cell is looked for.
 use mathlib.Core.Path.{sym, ap, _∙_}
 use mathlib.Core.Bool.{not}
-use Rattle.known.specs.Seek.{found-below}
-use Rattle.expansion.specs.BytesLaws.{due-none, due-by}
+use Rattle.known.proofs.Seek.{found-below}
+use Rattle.expansion.proofs.BytesLaws.{due-none, due-by}
 use native.Mathlib.Omega.{arith}
 use borrow.Author.Needs.{needs}
 use Rattle.expansion.proofs.is_due.Statement.{statement}
@@ -13,15 +13,6 @@ returns c =
     let entry = c .before .before .before .before in
     sym (due-none (entry .args .plan) (entry .args .workspace .now) (entry .args .heap .now) (entry .args .sizes) (c .if1 .taken))
 
-first-requires : tie.Need-first-requires
-first-requires c κs = search needs
-
-look-requires : tie.Need-look-requires
-look-requires c κs = search needs
-
-enum-known-row : tie.Need-enum-known-row
-enum-known-row c = search needs
-
 is-closed-requires : tie.Need-is-closed-requires
 is-closed-requires c κs =
     let at-row = c .before in
@@ -30,9 +21,6 @@ is-closed-requires c κs =
     let args = entry .args in
     let below = found-below (args .workspace .now) (args .plan .known) (args .sizes .known) _ _ _ (at-look .look .ensures) (at-row .row .given .1) in
     (entry .pre .roomy, omega (arith, below, entry .pre .known))
-
-enum-told : tie.Need-enum-told
-enum-told c = search needs
 
 returns-2 : tie.Need-returns-2
 returns-2 c =
@@ -59,10 +47,10 @@ is-due-spec =
     tie.close
     (tie.spec
     returns
-    first-requires
-    look-requires
-    enum-known-row
+    (λ c κs. search needs)
+    (λ c κs. search needs)
+    (λ c. search needs)
     is-closed-requires
-    enum-told
+    (λ c. search needs)
     returns-2
     returns-3)

@@ -4,9 +4,6 @@ use borrow.Author.Needs.{needs}
 use Rattle.expansion.proofs.is_paused.Statement.{statement}
 use Rattle.expansion.proofs.is_paused.Tie as tie
 
-is-due-requires : tie.Need-is-due-requires
-is-due-requires c κs = search needs
-
 returns : tie.Need-returns
 returns c =
     let at-if1 = c .before in
@@ -21,4 +18,4 @@ returns-2 c =
     rw (lt-leb (args .until) (args .sizes .count) (c .if1 .left))
 
 pub is-paused-spec : {M : Type 1} → statement M
-is-paused-spec = tie.close (tie.spec is-due-requires returns returns-2)
+is-paused-spec = tie.close (tie.spec (λ c κs. search needs) returns returns-2)

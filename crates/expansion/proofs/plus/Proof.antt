@@ -4,17 +4,8 @@ use borrow.Author.Needs.{needs}
 use Rattle.expansion.proofs.plus.Statement.{statement}
 use Rattle.expansion.proofs.plus.Tie as tie
 
-value-requires : tie.Need-value-requires
-value-requires c κs = search needs
-
-value-requires-2 : tie.Need-value-requires-2
-value-requires-2 c κs = search needs
-
-bits-requires : tie.Need-bits-requires
-bits-requires c κs = search needs
-
 returns : tie.Need-returns
 returns c = plus-is _ _ _ _ _ ((c .before .before .before .pre) .0) ((c .before .before .before .pre) .1) ((c .before .before .value) .ensures) ((c .before .value2) .ensures) ((c .bits) .ensures)
 
 pub plus-spec : {M : Type 1} → statement M
-plus-spec = tie.close (tie.spec value-requires value-requires-2 bits-requires returns)
+plus-spec = tie.close (tie.spec (λ c κs. search needs) (λ c κs. search needs) (λ c κs. search needs) returns)

@@ -1,8 +1,8 @@
 -- The invariant: what is left of the pops leads to the same bytes, and it is not paused. What is left to do falls.
 use mathlib.Core.Path.{sym, _∙_}
-use Rattle.layer.specs.Layer.{rowsOf}
-use Rattle.expansion.specs.Bytes.{leftIn}
-use Rattle.expansion.specs.BytesLoops.{Popping, popping-start, popping-workspace, popping-heap, popping-out, popping-fits, popping-paused, popping-falls, popping-next}
+use Rattle.table.specs.Records.{rowsOf}
+use Rattle.expansion.proofs.Left.{leftIn}
+use Rattle.expansion.proofs.BytesLoops.{Popping, popping-start, popping-workspace, popping-heap, popping-out, popping-fits, popping-paused, popping-falls, popping-next}
 use Rattle.expansion.proofs.Last.{ended}
 use borrow.Author.Needs.{needs}
 use Rattle.expansion.proofs.pops.Statement.{statement}
@@ -17,16 +17,7 @@ abbrev μ-loop : tie.MeasureT-loop
 loop-holds : tie.Need-loop-holds Inv-loop μ-loop
 loop-holds c =
     let entry = c .before .before .before in
-    popping-start (entry .pre .0) (entry .pre .1 .1)
-
-advance-requires : tie.Need-advance-requires Inv-loop μ-loop
-advance-requires c κs =
-    let at-loop = c .before .before in
-    let entry = at-loop .before .before .before .before in
-    (at-loop .loop .inv .fits, entry .pre .1 .0)
-
-enum-known-r : tie.Need-enum-known-r Inv-loop μ-loop
-enum-known-r c = search needs
+    popping-start (entry .pre .fits) (entry .pre .goes)
 
 same-length : tie.Need-same-length Inv-loop μ-loop
 same-length c =
@@ -55,13 +46,17 @@ is-paused-requires c κs =
 
 same-length-3 : tie.Need-same-length-3 Inv-loop μ-loop
 same-length-3 c =
-    let at-advance = c .before .before .before .before .before .before .before .before .before .before .before in
+    let at-is-paused = c .before in
+    let at-r = at-is-paused .before .before .before .before in
+    let at-advance = at-r .before .before .before .before .before .before in
     let at-loop = at-advance .before .before .before in
     popping-workspace (at-loop .loop .inv) _ _ _ (at-advance .advance .ensures)
 
 same-length-4 : tie.Need-same-length-4 Inv-loop μ-loop
 same-length-4 c =
-    let at-advance = c .before .before .before .before .before .before .before .before .before .before .before in
+    let at-is-paused = c .before in
+    let at-r = at-is-paused .before .before .before .before in
+    let at-advance = at-r .before .before .before .before .before .before in
     let at-loop = at-advance .before .before .before in
     popping-heap (at-loop .loop .inv) _ _ _ (at-advance .advance .ensures)
 
@@ -75,7 +70,8 @@ returns-2 c =
 
 loop-less : tie.Need-loop-less Inv-loop μ-loop
 loop-less c =
-    let at-r = c .before .before .before .before .before in
+    let at-is-paused = c .before in
+    let at-r = at-is-paused .before .before .before .before in
     let at-advance = at-r .before .before .before .before .before .before in
     let at-loop = at-advance .before .before .before in
     popping-falls (at-loop .loop .inv) _ _ _ (rw (at-r .r .given .1) at (at-advance .advance .ensures))
@@ -95,8 +91,8 @@ pops-spec =
     Inv-loop
     μ-loop
     loop-holds
-    advance-requires
-    enum-known-r
+    (λ c κs. search needs)
+    (λ c. search needs)
     same-length
     same-length-2
     returns

@@ -1,8 +1,8 @@
 -- The invariant: the first i neighbours were looked at.
 use Prim.Native.Nat.{_-_}
 use borrow.Author.Needs.{needs}
-use Rattle.layer.specs.Layer.{rowsOf}
-use Rattle.expansion.specs.BytesLoops.{AroundIn, around-start, around-workspace, around-heap, around-next, around-stopped, around-arrived, around-end}
+use Rattle.table.specs.Records.{rowsOf}
+use Rattle.expansion.proofs.BytesLoops.{AroundIn, around-start, around-workspace, around-heap, around-next, around-stopped, around-arrived, around-end}
 use Rattle.expansion.proofs.relax_all.Statement.{statement}
 use Rattle.expansion.proofs.relax_all.Tie as tie
 
@@ -14,25 +14,9 @@ abbrev μ-loop : tie.MeasureT-loop
 μ-loop workspace₀ heap₀ flags count plan at c g cells size₀ i₀ workspace heap size i = 14 - i
 
 loop-holds : tie.Need-loop-holds Inv-loop μ-loop
-loop-holds c = around-start (search needs) ((c .before .before .before .pre) .0) ((c .before .before .before .pre) .1 .1 .1)
-
-mul-relax : tie.Need-mul-relax Inv-loop μ-loop
-mul-relax c = search needs
-
-array-copy-out-relax : tie.Need-array-copy-out-relax Inv-loop μ-loop
-array-copy-out-relax c = search needs
-
-relax-requires : tie.Need-relax-requires Inv-loop μ-loop
-relax-requires c κs =
-    let at-loop = c .before .before .before .before in
-    let entry = at-loop .before .before .before .before in
-    (at-loop .loop .inv .fits, (entry .pre .1 .0, (entry .pre .1 .1 .0, at-loop .loop .inv .below)))
-
-enum-known-z : tie.Need-enum-known-z Inv-loop μ-loop
-enum-known-z c = search needs
-
-enum-known-r : tie.Need-enum-known-r Inv-loop μ-loop
-enum-known-r c = search needs
+loop-holds c =
+    let pre = c .before .before .before .pre in
+    around-start (search needs) (pre .fits) (pre .row)
 
 same-length : tie.Need-same-length Inv-loop μ-loop
 same-length c =
@@ -56,9 +40,6 @@ returns c =
     let at-loop = at-loop-test .before in
     around-stopped (at-loop .loop .inv) (record { high = 0; low = 0 }) (at-loop-test .loop-test .taken) _ _ _ (rw (at-r .r .given .1) at (at-relax .relax .ensures))
 
-enum-known-z-2 : tie.Need-enum-known-z-2 Inv-loop μ-loop
-enum-known-z-2 c = search needs
-
 same-length-3 : tie.Need-same-length-3 Inv-loop μ-loop
 same-length-3 c =
     let at-relax = c .before .before .before .before .before .before .before in
@@ -80,12 +61,6 @@ returns-2 c =
     let at-loop-test = at-relax .before .before .before .before in
     let at-loop = at-loop-test .before in
     around-arrived (at-loop .loop .inv) (record { high = 0; low = 0 }) (at-loop-test .loop-test .taken) _ _ _ (rw (at-z2 .z2 .given .1) at (at-relax .relax .ensures))
-
-add-i : tie.Need-add-i Inv-loop μ-loop
-add-i c = search needs
-
-loop-less : tie.Need-loop-less Inv-loop μ-loop
-loop-less c = search needs
 
 loop-again : tie.Need-loop-again Inv-loop μ-loop
 loop-again c =
@@ -111,20 +86,20 @@ relax-all-spec =
     Inv-loop
     μ-loop
     loop-holds
-    mul-relax
-    array-copy-out-relax
-    relax-requires
-    enum-known-z
-    enum-known-r
+    (λ c. search needs)
+    (λ c. search needs)
+    (λ c κs. search needs)
+    (λ c. search needs)
+    (λ c. search needs)
     same-length
     same-length-2
     returns
-    enum-known-z-2
+    (λ c. search needs)
     same-length-3
     same-length-4
     returns-2
-    add-i
-    loop-less
+    (λ c. search needs)
+    (λ c. search needs)
     loop-again
     same-length-5
     same-length-6

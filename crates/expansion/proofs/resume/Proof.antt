@@ -1,14 +1,11 @@
 -- Sizes above their rooms, or a run.
 use mathlib.Core.Path.{sym, _∙_}
 use borrow.Author.Tests.{not-true, not-false}
-use Rattle.layer.specs.Layer.{rowsOf}
-use Rattle.expansion.specs.BytesLoops.{sized-fits, resume-unsized, resume-sized}
+use Rattle.table.specs.Records.{rowsOf}
+use Rattle.expansion.proofs.BytesLoops.{sized-fits, resume-unsized, resume-sized}
 use borrow.Author.Needs.{needs}
 use Rattle.expansion.proofs.resume.Statement.{statement}
 use Rattle.expansion.proofs.resume.Tie as tie
-
-is-sized-requires : tie.Need-is-sized-requires
-is-sized-requires c κs = search needs
 
 returns : tie.Need-returns
 returns c =
@@ -24,12 +21,6 @@ run-requires c κs =
     let entry = at-is-sized .before .before .before .before in
     (sized-fits _ _ _ _ (entry .pre .0) (sym (at-is-sized .is-sized .ensures) ∙ not-false _ (at-if1 .if1 .left)), entry .pre .1)
 
-same-length : tie.Need-same-length
-same-length c = search needs
-
-same-length-2 : tie.Need-same-length-2
-same-length-2 c = search needs
-
 returns-2 : tie.Need-returns-2
 returns-2 c =
     let at-run = c .before .before .before .before in
@@ -41,4 +32,4 @@ returns-2 c =
 
 pub resume-spec : {M : Type 1} → statement M
 resume-spec =
-    tie.close (tie.spec is-sized-requires returns run-requires same-length same-length-2 returns-2)
+    tie.close (tie.spec (λ c κs. search needs) returns run-requires (λ c. search needs) (λ c. search needs) returns-2)

@@ -1,4 +1,4 @@
--- `float::bits` meets its contract: only a NaN differs from itself. Assumes nothing.
+-- `float::bits` meets its contract: only a NaN differs from itself.
 use borrow.Author.Needs.{needs}
 use Rattle.float.proofs.Nans.{number, nan-bits}
 use Rattle.float.proofs.bits.Statement.{statement}
@@ -10,8 +10,5 @@ returns c = nan-bits (c .before .args .x) (c .if1 .taken)
 float-to-bits-result : tie.Need-float-to-bits-result
 float-to-bits-result c = number _ (c .if1 .left)
 
-returns-2 : tie.Need-returns-2
-returns-2 c = search needs
-
 pub bits-spec : {M : Type 1} → statement M
-bits-spec = tie.close (tie.spec returns float-to-bits-result returns-2)
+bits-spec = tie.close (tie.spec returns float-to-bits-result (λ c. search needs))

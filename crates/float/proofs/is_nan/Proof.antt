@@ -1,4 +1,4 @@
--- `float::is_nan` meets its contract: the library's law of the patterns above an infinity's. Assumes nothing.
+-- `float::is_nan` meets its contract: the library's law of the patterns above an infinity's.
 use mathlib.Core.Path.{sym}
 use lib.Ieee.{binary64}
 use lib.Ieee.Bits.{nanBits-above}

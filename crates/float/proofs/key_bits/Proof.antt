@@ -1,12 +1,9 @@
--- `float::key_bits` meets its contract: the test is the definition's. Assumes nothing.
+-- `float::key_bits` meets its contract: the test is the definition's.
 use borrow.Author.Tests.{lt-ltb, le-ltb}
 use borrow.Author.Needs.{needs}
 use Rattle.float.specs.TotalOrder.{bitsOfKey}
 use Rattle.float.proofs.key_bits.Statement.{statement}
 use Rattle.float.proofs.key_bits.Tie as tie
-
-sub-result : tie.Need-sub-result
-sub-result c = search needs
 
 returns : tie.Need-returns
 unfolding bitsOfKey
@@ -17,4 +14,4 @@ unfolding bitsOfKey
 returns-2 c = simp (le-ltb _ _ (c .if1 .left))
 
 pub key-bits-spec : {M : Type 1} → statement M
-key-bits-spec = tie.close (tie.spec sub-result returns returns-2)
+key-bits-spec = tie.close (tie.spec (λ c. search needs) returns returns-2)

@@ -1,22 +1,16 @@
--- `float::less` meets its contract: a NaN is below nothing and above nothing, and otherwise the test is the machine's. Assumes nothing.
+-- `float::less` meets its contract: a NaN is below nothing and above nothing, and otherwise the test is the machine's.
 use mathlib.Core.Path.{sym, _∙_}
 use lib.Ieee.{ofBits, binary64}
 use borrow.Author.Needs.{needs}
-use Rattle.float.specs.Laws.{nan-value}
+use Rattle.float.proofs.Laws.{nan-value}
 use Rattle.float.proofs.Nans.{below-nothing, nothing-below}
 use Rattle.float.proofs.less.Statement.{statement}
 use Rattle.float.proofs.less.Tie as tie
-
-is-nan-requires : tie.Need-is-nan-requires
-is-nan-requires c κs = search needs
 
 returns : tie.Need-returns
 returns c =
     let s = c .before .before in
     rw (nan-value (s .args .a) (sym (c .before .is-nan .ensures) ∙ c .if1 .taken), below-nothing (ofBits binary64 (s .args .b)))
-
-is-nan-requires-2 : tie.Need-is-nan-requires-2
-is-nan-requires-2 c κs = search needs
 
 returns-2 : tie.Need-returns-2
 returns-2 c =
@@ -36,9 +30,9 @@ pub less-spec : {M : Type 1} → statement M
 less-spec =
     tie.close
     (tie.spec
-    is-nan-requires
+    (λ c κs. search needs)
     returns
-    is-nan-requires-2
+    (λ c κs. search needs)
     returns-2
     value-requires
     value-requires-2

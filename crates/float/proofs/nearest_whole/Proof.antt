@@ -1,4 +1,4 @@
--- `float::nearest_whole` meets its contract: up to 2 ^ 30 the size fits an `i32`, with either sign. Assumes nothing.
+-- `float::nearest_whole` meets its contract: up to 2 ^ 30 the size fits an `i32`, with either sign.
 use mathlib.Core.Path.{_≡_, refl, sym, _∙_, ap, subst}
 use Prim.Native.Nat.{ℕ, zero, suc, _≤_}
 use native.Mathlib.Nat.{zero-lt-suc}

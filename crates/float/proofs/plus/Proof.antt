@@ -1,4 +1,4 @@
--- `float::plus` meets its contract: a NaN on either side is a NaN's pattern, and otherwise the sum is the machine's. Assumes nothing.
+-- `float::plus` meets its contract: a NaN on either side is a NaN's pattern, and otherwise the sum is the machine's.
 use mathlib.Core.Path.{sym, _∙_}
 use lib.Ieee.{binary64, add}
 use borrow.Author.Needs.{needs}
@@ -6,16 +6,10 @@ use Rattle.float.proofs.Nans.{first-nan, second-nan, sum-swallows}
 use Rattle.float.proofs.plus.Statement.{statement}
 use Rattle.float.proofs.plus.Tie as tie
 
-is-nan-requires : tie.Need-is-nan-requires
-is-nan-requires c κs = search needs
-
 returns : tie.Need-returns
 returns c =
     first-nan (add binary64) sum-swallows (c .before .before .args .a) (c .before .before .args .b)
     (sym (c .before .is-nan .ensures) ∙ c .if1 .taken)
-
-is-nan-requires-2 : tie.Need-is-nan-requires-2
-is-nan-requires-2 c κs = search needs
 
 returns-2 : tie.Need-returns-2
 returns-2 c =
@@ -28,9 +22,6 @@ value-requires c κs = sym (c .before .before .before .is-nan .ensures) ∙ c .b
 value-requires-2 : tie.Need-value-requires-2
 value-requires-2 c κs = sym (c .before .before .is-nan2 .ensures) ∙ c .before .if2 .left
 
-bits-requires : tie.Need-bits-requires
-bits-requires c κs = search needs
-
 returns-3 : tie.Need-returns-3
 returns-3 c = cc
 
@@ -38,11 +29,11 @@ pub plus-spec : {M : Type 1} → statement M
 plus-spec =
     tie.close
     (tie.spec
-    is-nan-requires
+    (λ c κs. search needs)
     returns
-    is-nan-requires-2
+    (λ c κs. search needs)
     returns-2
     value-requires
     value-requires-2
-    bits-requires
+    (λ c κs. search needs)
     returns-3)

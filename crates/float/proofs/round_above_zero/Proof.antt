@@ -1,11 +1,11 @@
--- `float::round_above_zero` meets its contract: below 2 ^ 52 by `whole_size`, and from there on a number is whole already. Assumes nothing.
+-- `float::round_above_zero` meets its contract: below 2 ^ 52 by `whole_size`, and from there on a number is whole already.
 use mathlib.Core.Path.{_∙_, ap}
 use Prim.Native.Nat.{ℕ}
 use native.Mathlib.Omega.{arith}
 use lib.Dec.{le→leb}
 use lib.IntN.{pos}
 use lib.Ieee.{binary64, ofBits, ofInt, inFloat}
-use Rattle.float.specs.Laws.{so}
+use Rattle.float.proofs.Laws.{so}
 use Rattle.float.proofs.Rounding.{whole, large-stays}
 use Rattle.float.proofs.round_above_zero.Statement.{statement}
 use Rattle.float.proofs.round_above_zero.Tie as tie

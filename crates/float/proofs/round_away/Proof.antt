@@ -1,8 +1,8 @@
--- `float::round_away` meets its contract: above zero, below by the negative, and otherwise a zero or a NaN, which stays. Assumes nothing.
+-- `float::round_away` meets its contract: above zero, below by the negative, and otherwise a zero or a NaN, which stays.
 use mathlib.Core.Path.{_∙_, ap}
 use lib.Ieee.{ofBits, neg}
 use borrow.Author.Needs.{needs}
-use Rattle.float.specs.Laws.{so}
+use Rattle.float.proofs.Laws.{so}
 use Rattle.float.proofs.Signs.{away-neg, negative-above, zero-stays}
 use Rattle.float.proofs.round_away.Statement.{statement}
 use Rattle.float.proofs.round_away.Tie as tie
@@ -10,9 +10,6 @@ use Rattle.float.proofs.round_away.Tie as tie
 round-above-zero-requires : tie.Need-round-above-zero-requires
 unfolding ofBits
 round-above-zero-requires c κs = c .if1 .taken
-
-returns : tie.Need-returns
-returns c = search needs
 
 round-above-zero-requires-2 : tie.Need-round-above-zero-requires-2
 unfolding ofBits
@@ -29,4 +26,4 @@ returns-3 c =
 pub round-away-spec : {M : Type 1} → statement M
 round-away-spec =
     tie.close
-    (tie.spec round-above-zero-requires returns round-above-zero-requires-2 returns-2 returns-3)
+    (tie.spec round-above-zero-requires (λ c. search needs) round-above-zero-requires-2 returns-2 returns-3)

@@ -1,4 +1,4 @@
--- `float::value` meets its contract. Assumes nothing.
+-- `float::value` meets its contract.
 use borrow.Author.Needs.{needs}
 use Rattle.float.proofs.Nans.{fails}
 use Rattle.float.proofs.value.Statement.{statement}
@@ -7,8 +7,5 @@ use Rattle.float.proofs.value.Tie as tie
 float-from-bits-result : tie.Need-float-from-bits-result
 float-from-bits-result c = fails (c .pre)
 
-returns : tie.Need-returns
-returns c = search needs
-
 pub value-spec : {M : Type 1} → statement M
-value-spec = tie.close (tie.spec float-from-bits-result returns)
+value-spec = tie.close (tie.spec float-from-bits-result (λ c. search needs))

@@ -1,9 +1,9 @@
--- `float::whole_size` meets its contract: the double is exact, and its whole part is below 2 ^ 53. Assumes nothing.
+-- `float::whole_size` meets its contract: the double is exact, and its whole part is below 2 ^ 53.
 use mathlib.Core.Path.{_∙_, ap}
 use Prim.Native.Nat.{ℕ, _+_, _/_}
 use native.Mathlib.Omega.{arith}
 use lib.Ieee.{ofBits}
-use Rattle.float.specs.Laws.{so}
+use Rattle.float.proofs.Laws.{so}
 use Rattle.float.proofs.Rounding.{doubled}
 use Rattle.float.proofs.whole_size.Statement.{statement}
 use Rattle.float.proofs.whole_size.Tie as tie

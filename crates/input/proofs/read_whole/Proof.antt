@@ -27,29 +27,8 @@ Inv-loop from buffer₀ done₀ buffer done = (done ≤ length buffer) × (lengt
 abbrev μ-loop : tie.MeasureT-loop
 μ-loop from buffer₀ done₀ buffer done = length buffer - done
 
-loop-holds : tie.Need-loop-holds Inv-loop μ-loop
-loop-holds c = search needs
-
-sub-rest : tie.Need-sub-rest Inv-loop μ-loop
-sub-rest c = search needs
-
-part-rest-start : tie.Need-part-rest-start Inv-loop μ-loop
-part-rest-start c = search needs
-
-part-rest-end : tie.Need-part-rest-end Inv-loop μ-loop
-part-rest-end c = search needs
-
-read-requires : tie.Need-read-requires Inv-loop μ-loop
-read-requires c κs = search needs
-
 same-length : tie.Need-same-length Inv-loop μ-loop
 same-length c = c .before .rest3 .given .1 ∙ c .before .before .before .before .before .before .before .before .before .loop .inv .1
-
-returns : tie.Need-returns Inv-loop μ-loop
-returns c = search needs
-
-count-requires : tie.Need-count-requires Inv-loop μ-loop
-count-requires c κs = search needs
 
 same-length-2 : tie.Need-same-length-2 Inv-loop μ-loop
 same-length-2 c = c .before .before .rest5 .given .1 ∙ c .before .before .before .before .before .before .before .before .before .before .before .before .loop .inv .1
@@ -86,11 +65,8 @@ loop-again c =
     let same = c .before .before .rest5 .given .1 in
     (omega arith, same ∙ c .before .before .before .before .before .before .before .before .before .before .before .before .loop .inv .1)
 
-same-length-3 : tie.Need-same-length-3 Inv-loop μ-loop
-same-length-3 c = search needs
-
 returns-3 : tie.Need-returns-3 Inv-loop μ-loop
 returns-3 c = counted (c .before .loop .done) (c .before .loop .buffer) (c .before .loop .inv .0)
 
 pub read-whole-spec : {M : Type 1} → statement M
-read-whole-spec = tie.close (tie.spec Inv-loop μ-loop loop-holds sub-rest part-rest-start part-rest-end read-requires same-length returns count-requires same-length-2 returns-2 add-done loop-less loop-again same-length-3 returns-3)
+read-whole-spec = tie.close (tie.spec Inv-loop μ-loop (λ c. search needs) (λ c. search needs) (λ c. search needs) (λ c. search needs) (λ c κs. search needs) same-length (λ c. search needs) (λ c κs. search needs) same-length-2 returns-2 add-done loop-less loop-again (λ c. search needs) returns-3)

@@ -1,5 +1,5 @@
 -- What was read of the input is what is reported.
-use mathlib.Core.Path.{_≡_, sym, subst}
+use mathlib.Core.Path.{_≡_, subst}
 use mathlib.Core.List.{List}
 use Prim.Native.Nat.{ℕ}
 use native.Mathlib.Omega.{arith}
@@ -7,13 +7,14 @@ use borrow.Author.Needs.{needs}
 use denote.Ref.{now}
 use lib.ListN.{length, take}
 use Rattle.io.specs.Counts.{Counts}
-use Rattle.layer.specs.Changes.{changed}
+use Rattle.general.specs.Changed.{changed}
 use Rattle.survey.specs.declared.WriteAnswer.{WriteAnswer}
-use Rattle.summary.specs.Summary.{reportIn}
+use Rattle.report_text.specs.Summary.{reportIn}
 use Rattle.input.specs.declared.ReadAnswer.{ReadAnswer}
 use Rattle.input.specs.declared.ReadAnswer.the-variants.{Read}
 use Rattle.input.specs.declared.InputAnswer.the-variants.{Reported}
-use Rattle.input.specs.Input.{Fills, Reports}
+use Rattle.input.specs.Inner.Input.{Fills}
+use Rattle.input.specs.Input.{Reports}
 use Rattle.input.proofs.report.Statement.{statement}
 use Rattle.input.proofs.report.Tie as tie
 
@@ -26,35 +27,11 @@ module _ (buffer : List ℕ) {read : ReadAnswer} {n : ℕ} (said : read ≡ Read
   reported : (text : List ℕ) {answer : WriteAnswer} {text′ : List ℕ} → 65536 ≡ length buffer → changed answer text′ ≡ reportIn (take n buffer) text → Reports (Reported answer) text text′
   reported text whole told = let counts = filled in (take n buffer, (omega arith, told))
 
-large-buffer-requires : tie.Need-large-buffer-requires
-large-buffer-requires c κs = search needs
-
-slice-aggregate-read-whole : tie.Need-slice-aggregate-read-whole
-slice-aggregate-read-whole c = search needs
-
-read-whole-requires : tie.Need-read-whole-requires
-read-whole-requires c κs = search needs
-
-enum-known-read : tie.Need-enum-known-read
-enum-known-read c = search needs
-
-enum-told : tie.Need-enum-told
-enum-told c = search needs
-
-returns : tie.Need-returns
-returns c = search needs
-
 array-share-prefix-file : tie.Need-array-share-prefix-file
 array-share-prefix-file c = let whole = c .before .before .before .before .read-whole in filled (whole .last .1 .0) (c .before .read .given .1) (whole .ensures) .0
 
 slice-aggregate-report : tie.Need-slice-aggregate-report
 slice-aggregate-report c = let whole = c .before .before .before .before .before .read-whole in filled (whole .last .1 .0) (c .before .before .read .given .1) (whole .ensures) .1
-
-report-requires : tie.Need-report-requires
-report-requires c κs = search needs
-
-same-length : tie.Need-same-length
-same-length c = search needs
 
 returns-2 : tie.Need-returns-2
 returns-2 c =
@@ -63,4 +40,4 @@ returns-2 c =
     reported (whole .last .1 .0) (at-match .read .given .1) (whole .ensures) (now (at-match .before .before .before .before .before .before .before .args .text)) (search needs) (c .before .before .report .ensures)
 
 pub report-spec : {M : Type 1} → statement M
-report-spec = tie.close (tie.spec large-buffer-requires slice-aggregate-read-whole read-whole-requires enum-known-read enum-told returns array-share-prefix-file slice-aggregate-report report-requires same-length returns-2)
+report-spec = tie.close (tie.spec (λ c κs. search needs) (λ c. search needs) (λ c κs. search needs) (λ c. search needs) (λ c. search needs) (λ c. search needs) array-share-prefix-file slice-aggregate-report (λ c κs. search needs) (λ c. search needs) returns-2)

@@ -4,13 +4,10 @@ use Prim.Native.Nat.{ℕ, _*_, _/_, _≤_}
 use native.Mathlib.Nat.{mul-le-mul}
 use native.Mathlib.Omega.{arith}
 use borrow.Author.Needs.{needs}
-use Rattle.known.specs.Known.{bucketOf}
-use Rattle.known.specs.Laws.{shared-lt}
+use Rattle.known.specs.Inner.Known.{bucketOf}
+use Rattle.known.proofs.Laws.{shared-lt}
 use Rattle.known.proofs.bucket.Statement.{statement}
 use Rattle.known.proofs.bucket.Tie as tie
-
-mixed-requires : tie.Need-mixed-requires
-mixed-requires c κs = search needs
 
 mul-result : tie.Need-mul-result
 mul-result c =
@@ -25,4 +22,4 @@ returns c =
     (ap (λ (m : ℕ). m * room / 4294967296) (c .mixed .ensures .0), shared-lt (c .mixed .result) room (omega arith) (omega arith))
 
 pub bucket-spec : {M : Type 1} → statement M
-bucket-spec = tie.close (tie.spec mixed-requires mul-result returns)
+bucket-spec = tie.close (tie.spec (λ c κs. search needs) mul-result returns)

@@ -8,19 +8,10 @@ use lib.ListN.{drop, replicate}
 use Rattle.known.proofs.clear.Statement.{statement}
 use Rattle.known.proofs.clear.Tie as tie
 
-mul-zero : tie.Need-mul-zero
-mul-zero c = search needs
-
-zero-requires : tie.Need-zero-requires
-zero-requires c κs = search needs
-
-same-length : tie.Need-same-length
-same-length c = search needs
-
 returns : tie.Need-returns
 returns c =
     let args = c .before .before .before .before .before .args in
     c .before .before .zero .ensures ∙ ap (λ (k : ℕ). replicate {A = ℕ} k 0 ++ drop (4 * args .room) (args .workspace .now)) (sub-zero (4 * args .room))
 
 pub clear-spec : {M : Type 1} → statement M
-clear-spec = tie.close (tie.spec mul-zero zero-requires same-length returns)
+clear-spec = tie.close (tie.spec (λ c. search needs) (λ c κs. search needs) (λ c. search needs) returns)

@@ -5,8 +5,9 @@ use borrow.Author.Needs.{needs}
 use native.Mathlib.Omega.{arith}
 use Rattle.refusal.specs.declared.Cell.{Cell}
 use Rattle.cell.specs.Cell.{sameCell}
-use Rattle.known.specs.Known.{bucketOf, headIn}
-use Rattle.known.specs.Seek.{seekIn, findIn, seek-none, seek-found, seek-next}
+use Rattle.known.specs.Inner.Known.{bucketOf, headIn}
+use Rattle.known.specs.Inner.Seek.{seekIn, findIn}
+use Rattle.known.proofs.Seek.{seek-none, seek-found, seek-next}
 use Rattle.known.proofs.find.Statement.{statement}
 use Rattle.known.proofs.find.Tie as tie
 
@@ -16,27 +17,12 @@ Inv-loop workspace room count c link₀ bound₀ link bound = (bound ≤ count) 
 abbrev μ-loop : tie.MeasureT-loop
 μ-loop workspace room count c link₀ bound₀ link bound = bound
 
-bucket-requires : tie.Need-bucket-requires Inv-loop μ-loop
-bucket-requires c κs = search needs
-
-mul-read32-little : tie.Need-mul-read32-little Inv-loop μ-loop
-mul-read32-little c = search needs
-
-read32-little-requires : tie.Need-read32-little-requires Inv-loop μ-loop
-read32-little-requires c κs = search needs
-
-cast-link : tie.Need-cast-link Inv-loop μ-loop
-cast-link c = search needs
-
 loop-holds : tie.Need-loop-holds Inv-loop μ-loop
 unfolding findIn
 loop-holds c =
     let args = c .before .before .before .args in
     let head : headIn (args .workspace .now) (bucketOf (args .c) (args .room)) ≡ c .read32-little .result = ap (headIn (args .workspace .now)) (sym (c .before .bucket .ensures .0)) ∙ sym (c .read32-little .ensures .0) in
     (omega arith, (suc (args .count), omega arith, ap (seekIn (suc (args .count)) (args .workspace .now) (args .room) (args .c) (args .count)) head))
-
-wrapping-sub-usize-requires : tie.Need-wrapping-sub-usize-requires Inv-loop μ-loop
-wrapping-sub-usize-requires c κs = search needs
 
 returns : tie.Need-returns Inv-loop μ-loop
 returns c =
@@ -45,12 +31,6 @@ returns c =
     let left = here .inv .1 in
     sym (left .2 ∙ seek-none (args .workspace .now) (args .room) (args .c) (here .bound) (here .link) (left .0) (λ some under. omega (arith, c .if1 .taken, c .before .wrapping-sub-usize .ensures)))
 
-cell-at-requires : tie.Need-cell-at-requires Inv-loop μ-loop
-cell-at-requires c κs = search needs
-
-same-requires : tie.Need-same-requires Inv-loop μ-loop
-same-requires c κs = search needs
-
 returns-2 : tie.Need-returns-2 Inv-loop μ-loop
 returns-2 c =
     let args = c .before .before .before .before .before .before .before .before .before .args in
@@ -58,24 +38,6 @@ returns-2 c =
     let left = here .inv .1 in
     let same = ap (λ (d : Cell). sameCell d (args .c)) (sym (c .before .before .cell-at .ensures)) ∙ sym (c .before .same .ensures) ∙ c .if2 .taken in
     sym (left .2 ∙ seek-found (args .workspace .now) (args .room) (args .c) (here .bound) (here .link) (left .0) _ (left .1) (omega arith) (c .before .before .before .if1 .left) same)
-
-mul-read32-little-2 : tie.Need-mul-read32-little-2 Inv-loop μ-loop
-mul-read32-little-2 c = search needs
-
-mul-read32-little-3 : tie.Need-mul-read32-little-3 Inv-loop μ-loop
-mul-read32-little-3 c = search needs
-
-add-read32-little : tie.Need-add-read32-little Inv-loop μ-loop
-add-read32-little c = search needs
-
-add-read32-little-2 : tie.Need-add-read32-little-2 Inv-loop μ-loop
-add-read32-little-2 c = search needs
-
-read32-little-requires-2 : tie.Need-read32-little-requires-2 Inv-loop μ-loop
-read32-little-requires-2 c κs = search needs
-
-cast-link-2 : tie.Need-cast-link-2 Inv-loop μ-loop
-cast-link-2 c = search needs
 
 loop-less : tie.Need-loop-less Inv-loop μ-loop
 loop-less c = omega arith
@@ -101,21 +63,21 @@ find-spec =
     (tie.spec
     Inv-loop
     μ-loop
-    bucket-requires
-    mul-read32-little
-    read32-little-requires
-    cast-link
+    (λ c κs. search needs)
+    (λ c. search needs)
+    (λ c κs. search needs)
+    (λ c. search needs)
     loop-holds
-    wrapping-sub-usize-requires
+    (λ c κs. search needs)
     returns
-    cell-at-requires
-    same-requires
+    (λ c κs. search needs)
+    (λ c κs. search needs)
     returns-2
-    mul-read32-little-2
-    mul-read32-little-3
-    add-read32-little
-    add-read32-little-2
-    read32-little-requires-2
-    cast-link-2
+    (λ c. search needs)
+    (λ c. search needs)
+    (λ c. search needs)
+    (λ c. search needs)
+    (λ c κs. search needs)
+    (λ c. search needs)
     loop-less
     loop-again)

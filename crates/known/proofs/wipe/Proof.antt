@@ -9,12 +9,6 @@ use lib.Seq.{drop-length}
 use Rattle.known.proofs.wipe.Statement.{statement}
 use Rattle.known.proofs.wipe.Tie as tie
 
-zero-requires : tie.Need-zero-requires
-zero-requires c κs = search needs
-
-same-length : tie.Need-same-length
-same-length c = search needs
-
 returns : tie.Need-returns
 returns c =
     let bytes = c .before .before .before .before .before .args .workspace .now in
@@ -24,4 +18,4 @@ returns c =
     ∙ ap (λ (n : ℕ). replicate n 0) (sub-zero (length bytes))
 
 pub wipe-spec : {M : Type 1} → statement M
-wipe-spec = tie.close (tie.spec zero-requires same-length returns)
+wipe-spec = tie.close (tie.spec (λ c κs. search needs) (λ c. search needs) returns)

@@ -8,7 +8,7 @@ use lib.Signed.{nonNeg}
 use mir.Syntax.{w32, w64}
 use mir.Val.{Fits, SFits, ofZ, toZ}
 use mir.Facts.{toZ-ofZ}
-use Rattle.lattice.specs.Fields.{below-fits}
+use Rattle.lattice.proofs.Fields.{below-fits}
 use Rattle.lattice.proofs.Signs.{abs-below, abs-above}
 use Rattle.lattice.proofs.absolute.Statement.{statement}
 use Rattle.lattice.proofs.absolute.Tie as tie
@@ -36,8 +36,5 @@ cast-result-2 c =
     let same = toZ-ofZ (c .before .fits .d) in
     castable (c .before .args .d) _ (c .before .pre) (same ∙ abs-above (c .before .args .d) (rw same at (c .if1 .left)))
 
-returns-2 : tie.Need-returns-2
-returns-2 c = search needs
-
 pub absolute-spec : {M : Type 1} → statement M
-absolute-spec = tie.close (tie.spec sub-result cast-result returns cast-result-2 returns-2)
+absolute-spec = tie.close (tie.spec sub-result cast-result returns cast-result-2 (λ c. search needs))

@@ -6,12 +6,9 @@ use lib.IntN.{ℤ, natAbs, _-ℤ_}
 use mir.Syntax.{w64}
 use mir.Val.{ofZ, toZ}
 use mir.Facts.{toZ-ofZ}
-use Rattle.lattice.specs.Fields.{apart-below}
+use Rattle.lattice.proofs.Fields.{apart-below}
 use Rattle.lattice.proofs.apart.Statement.{statement}
 use Rattle.lattice.proofs.apart.Tie as tie
-
-difference-requires : tie.Need-difference-requires
-difference-requires c κs = search needs
 
 between : (c : tie.After-difference) → toZ w64 (ofZ w64 (c .difference .result)) ≡ c .before .args .a -ℤ c .before .args .b
 between c =
@@ -26,4 +23,4 @@ returns : tie.Need-returns
 returns c = c .absolute .ensures ∙ ap natAbs (between (c .before))
 
 pub apart-spec : {M : Type 1} → statement M
-apart-spec = tie.close (tie.spec difference-requires absolute-requires returns)
+apart-spec = tie.close (tie.spec (λ c κs. search needs) absolute-requires returns)

@@ -1,7 +1,7 @@
 -- Both numbers are as they were in 64 bits, where their difference fits.
 use mathlib.Core.Path.{_∙_}
 use mir.Facts.{toZ-ofZ}
-use Rattle.lattice.specs.Fields.{wide-fits, widened, difference-fits}
+use Rattle.lattice.proofs.Fields.{wide-fits, widened, difference-fits}
 use Rattle.lattice.proofs.difference.Statement.{statement}
 use Rattle.lattice.proofs.difference.Tie as tie
 

@@ -2,19 +2,10 @@
 use borrow.Author.Needs.{needs}
 use mathlib.Core.Path.{_≡_, _∙_, ap}
 use Rattle.lattice.specs.Lattice.{at, halves, hasNeighborRoom}
-use Rattle.lattice.specs.Fields.{fit, read, put}
+use Rattle.lattice.proofs.Fields.{fit, read, put}
 use Rattle.lattice.proofs.Room.{halves-near}
 use Rattle.lattice.proofs.halves.Statement.{statement}
 use Rattle.lattice.proofs.halves.Tie as tie
-
-half-requires : tie.Need-half-requires
-half-requires c κs = search needs
-
-half-requires-2 : tie.Need-half-requires-2
-half-requires-2 c κs = search needs
-
-half-requires-3 : tie.Need-half-requires-3
-half-requires-3 c κs = search needs
 
 returns : tie.Need-returns
 returns c =
@@ -30,4 +21,4 @@ returns c =
     (same, ap hasNeighborRoom same ∙ halves-near place (fit place told))
 
 pub halves-spec : {M : Type 1} → statement M
-halves-spec = tie.close (tie.spec half-requires half-requires-2 half-requires-3 returns)
+halves-spec = tie.close (tie.spec (λ c κs. search needs) (λ c κs. search needs) (λ c κs. search needs) returns)

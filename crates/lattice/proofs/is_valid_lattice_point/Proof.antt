@@ -4,18 +4,9 @@ use mathlib.Core.Path.{_≡_, sym, _∙_, ap}
 use mathlib.Core.Bool.{Bool, _&&_, Bool·beq}
 use Rattle.refusal.specs.declared.Coord.{Coord}
 use Rattle.lattice.specs.Lattice.{isLatticePoint}
-use Rattle.lattice.specs.Fields.{read}
+use Rattle.lattice.proofs.Fields.{read}
 use Rattle.lattice.proofs.is_valid_lattice_point.Statement.{statement}
 use Rattle.lattice.proofs.is_valid_lattice_point.Tie as tie
-
-is-odd-requires : tie.Need-is-odd-requires
-is-odd-requires c κs = search needs
-
-is-odd-requires-2 : tie.Need-is-odd-requires-2
-is-odd-requires-2 c κs = search needs
-
-is-odd-requires-3 : tie.Need-is-odd-requires-3
-is-odd-requires-3 c κs = search needs
 
 abbrev place : tie.After-is-odd3 → Coord
 place c = c .before .before .before .before .before .before .args .c
@@ -37,4 +28,4 @@ returns-2 c = tested (c .before) (c .if1 .left)
 
 pub is-valid-lattice-point-spec : {M : Type 1} → statement M
 is-valid-lattice-point-spec =
-    tie.close (tie.spec is-odd-requires is-odd-requires-2 is-odd-requires-3 returns returns-2)
+    tie.close (tie.spec (λ c κs. search needs) (λ c κs. search needs) (λ c κs. search needs) returns returns-2)

@@ -7,15 +7,6 @@ use Rattle.lattice.specs.Lattice.{isOdd, alone, lowered}
 use Rattle.lattice.proofs.lowered_alone.Statement.{statement}
 use Rattle.lattice.proofs.lowered_alone.Tie as tie
 
-is-odd-requires : tie.Need-is-odd-requires
-is-odd-requires c κs = search needs
-
-is-odd-requires-2 : tie.Need-is-odd-requires-2
-is-odd-requires-2 c κs = search needs
-
-is-odd-requires-3 : tie.Need-is-odd-requires-3
-is-odd-requires-3 c κs = search needs
-
 abbrev start : tie.After-is-odd3 → tie.Start
 start c = c .before .before .before
 
@@ -44,4 +35,4 @@ returns-3 c =
     toZ-ofZ (start (c .before .before) .fits .x) ∙ tested (c .before .before) (c .before .if1 .left) (c .if2 .left)
 
 pub lowered-alone-spec : {M : Type 1} → statement M
-lowered-alone-spec = tie.close (tie.spec is-odd-requires is-odd-requires-2 is-odd-requires-3 returns sub-result returns-2 returns-3)
+lowered-alone-spec = tie.close (tie.spec (λ c κs. search needs) (λ c κs. search needs) (λ c κs. search needs) returns sub-result returns-2 returns-3)

@@ -3,33 +3,9 @@ use borrow.Author.Needs.{needs}
 use Prim.Native.Nat.{_+_}
 use mathlib.Core.Path.{_∙_}
 use Rattle.lattice.specs.Lattice.{manhattan}
-use Rattle.lattice.specs.Fields.{read}
+use Rattle.lattice.proofs.Fields.{read}
 use Rattle.lattice.proofs.manhattan.Statement.{statement}
 use Rattle.lattice.proofs.manhattan.Tie as tie
-
-apart-requires : tie.Need-apart-requires
-apart-requires c κs = search needs
-
-cast-result : tie.Need-cast-result
-cast-result c = search needs
-
-apart-requires-2 : tie.Need-apart-requires-2
-apart-requires-2 c κs = search needs
-
-cast-result-2 : tie.Need-cast-result-2
-cast-result-2 c = search needs
-
-add-result : tie.Need-add-result
-add-result c = search needs
-
-apart-requires-3 : tie.Need-apart-requires-3
-apart-requires-3 c κs = search needs
-
-cast-result-3 : tie.Need-cast-result-3
-cast-result-3 c = search needs
-
-add-result-2 : tie.Need-add-result-2
-add-result-2 c = search needs
 
 returns : tie.Need-returns
 unfolding manhattan
@@ -43,4 +19,4 @@ returns c =
     (λ i. x i + y i + z i) ∙ (λ i. manhattan (first i) (second i))
 
 pub manhattan-spec : {M : Type 1} → statement M
-manhattan-spec = tie.close (tie.spec apart-requires cast-result apart-requires-2 cast-result-2 add-result apart-requires-3 cast-result-3 add-result-2 returns)
+manhattan-spec = tie.close (tie.spec (λ c κs. search needs) (λ c. search needs) (λ c κs. search needs) (λ c. search needs) (λ c. search needs) (λ c κs. search needs) (λ c. search needs) (λ c. search needs) returns)

@@ -15,7 +15,8 @@ use Rattle.refusal.specs.declared.Refusal.the-variants.{CoordOverflow}
 use Rattle.lattice.specs.declared.ParityAnswer.{ParityAnswer}
 use Rattle.lattice.specs.declared.ParityAnswer.the-variants as parity
 use Rattle.lattice.specs.declared.NumberAnswer.the-variants.{Is, Refused}
-use Rattle.lattice.specs.Lattice.{parityOf, manhattan, manhattanBy, manhattanOf}
+use Rattle.lattice.specs.Lattice.{parityOf, manhattan, manhattanOf}
+use Rattle.lattice.proofs.Split.{manhattanBy}
 use Rattle.lattice.proofs.Answers.{answered}
 use Rattle.lattice.proofs.manhattan_distance_to.Statement.{statement}
 use Rattle.lattice.proofs.manhattan_distance_to.Tie as tie
@@ -26,30 +27,6 @@ by-parities a b e f = (λ i. manhattanBy (sym e i) (sym f i) (manhattan a b))
 
 fitting : (n : ℕ) → n ≤ 2147483647 → toZ w32 n ≡ pos n
 fitting n h = toZ-ofZ {w = w32} {z = pos n} (record { sfits = omega arith })
-
-parity-of-requires : tie.Need-parity-of-requires
-parity-of-requires c κs = search needs
-
-parity-of-requires-2 : tie.Need-parity-of-requires-2
-parity-of-requires-2 c κs = search needs
-
-manhattan-requires : tie.Need-manhattan-requires
-manhattan-requires c κs = search needs
-
-enum-known-first : tie.Need-enum-known-first
-enum-known-first c = search needs
-
-enum-told : tie.Need-enum-told
-enum-told c = search needs
-
-enum-known-second : tie.Need-enum-known-second
-enum-known-second c = search needs
-
-enum-told-2 : tie.Need-enum-told-2
-enum-told-2 c = search needs
-
-cast-t12 : tie.Need-cast-t12
-cast-t12 c = search needs
 
 returns : tie.Need-returns
 returns c =
@@ -89,4 +66,4 @@ returns-4 c =
     summed (c .before) (lt-leb n 2147483647 (omega arith))
 
 pub manhattan-distance-to-spec : {M : Type 1} → statement M
-manhattan-distance-to-spec = tie.close (tie.spec parity-of-requires parity-of-requires-2 manhattan-requires enum-known-first enum-told enum-known-second enum-told-2 cast-t12 returns returns-2 returns-3 returns-4)
+manhattan-distance-to-spec = tie.close (tie.spec (λ c κs. search needs) (λ c κs. search needs) (λ c κs. search needs) (λ c. search needs) (λ c. search needs) (λ c. search needs) (λ c. search needs) (λ c. search needs) returns returns-2 returns-3 returns-4)

@@ -7,15 +7,9 @@ use Rattle.refusal.specs.declared.Refusal.the-variants.{InvalidParity}
 use Rattle.lattice.specs.declared.Parity.the-variants.{Even, Odd}
 use Rattle.lattice.specs.declared.ParityAnswer.the-variants.{Is, Refused}
 use Rattle.lattice.specs.Lattice.{isOdd, parityOf}
-use Rattle.lattice.specs.Fields.{read}
+use Rattle.lattice.proofs.Fields.{read}
 use Rattle.lattice.proofs.parity_of.Statement.{statement}
 use Rattle.lattice.proofs.parity_of.Tie as tie
-
-is-valid-lattice-point-requires : tie.Need-is-valid-lattice-point-requires
-is-valid-lattice-point-requires c κs = search needs
-
-is-odd-requires : tie.Need-is-odd-requires
-is-odd-requires c κs = search needs
 
 abbrev place : tie.After-is-odd → Coord
 place c = c .before .before .before .args .c
@@ -39,4 +33,4 @@ returns-3 c = tested (c .before) (c .if1 .left) refl
 pub parity-of-spec : {M : Type 1} → statement M
 parity-of-spec =
     tie.close
-    (tie.spec is-valid-lattice-point-requires is-odd-requires returns returns-2 returns-3)
+    (tie.spec (λ c κs. search needs) (λ c κs. search needs) returns returns-2 returns-3)

@@ -7,12 +7,6 @@ use Rattle.lattice.specs.Lattice.{isOdd, raised}
 use Rattle.lattice.proofs.raised_to.Statement.{statement}
 use Rattle.lattice.proofs.raised_to.Tie as tie
 
-is-odd-requires : tie.Need-is-odd-requires
-is-odd-requires c κs = search needs
-
-is-odd-requires-2 : tie.Need-is-odd-requires-2
-is-odd-requires-2 c κs = search needs
-
 abbrev start : tie.After-is-odd2 → tie.Start
 start c = c .before .before
 
@@ -34,4 +28,4 @@ returns-2 c =
     toZ-ofZ (add-result c) ∙ rw (toZ-ofZ (start (c .before) .fits .y)) (tested (c .before) (c .if1 .left))
 
 pub raised-to-spec : {M : Type 1} → statement M
-raised-to-spec = tie.close (tie.spec is-odd-requires is-odd-requires-2 returns add-result returns-2)
+raised-to-spec = tie.close (tie.spec (λ c κs. search needs) (λ c κs. search needs) returns add-result returns-2)

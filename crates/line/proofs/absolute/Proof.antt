@@ -7,7 +7,7 @@ use mir.Syntax.{w32}
 use mir.Val.{SFits}
 use mir.Facts.{toZ-ofZ}
 use borrow.Author.Needs.{needs}
-use Rattle.lattice.specs.Fields.{wide-fits, widened}
+use Rattle.lattice.proofs.Fields.{wide-fits, widened}
 use Rattle.line.proofs.absolute.Statement.{statement}
 use Rattle.line.proofs.absolute.Tie as tie
 
@@ -21,9 +21,6 @@ cast-absolute c = rw (toZ-ofZ (c .fits .d)) (wide-fits (c .fits .d))
 absolute-requires : tie.Need-absolute-requires
 absolute-requires c κs = subst (λ (z : ℤ). natAbs z < 2 ^ 32) (sym (widened (c .fits .d))) (omega (arith, at-most (c .args .d) (c .fits .d)))
 
-cast-result : tie.Need-cast-result
-cast-result c = search needs
-
 returns : tie.Need-returns
 returns c =
     let start = c .before in
@@ -31,4 +28,4 @@ returns c =
     (same, omega (arith, same, at-most (start .args .d) (start .fits .d)))
 
 pub absolute-spec : {M : Type 1} → statement M
-absolute-spec = tie.close (tie.spec cast-absolute absolute-requires cast-result returns)
+absolute-spec = tie.close (tie.spec cast-absolute absolute-requires (λ c. search needs) returns)

@@ -9,8 +9,9 @@ use Rattle.lattice.specs.declared.ParityAnswer.{ParityAnswer}
 use Rattle.lattice.specs.Lattice.{parityOf}
 use Rattle.lattice.proofs.Answers.{answered}
 use Rattle.cell.specs.Cell.{coordOf, sameCell}
-use Rattle.listing.specs.Listing.{Listing, cells, listedIn}
-use Rattle.line.specs.Line.{lineBetween, lineBy, lineOf}
+use Rattle.cell_list.specs.Listing.{Listing, cells, listedIn}
+use Rattle.line.specs.Line.{lineBetween, lineOf}
+use Rattle.line.proofs.Split.{lineBy}
 use Rattle.line.proofs.between.Statement.{statement}
 use Rattle.line.proofs.between.Tie as tie
 
@@ -37,15 +38,6 @@ answer c first second =
     ap (λ (l : Listing). listedIn l (a .output .now))
     (by-parities (a .start) (a .end) apart (found (c .before .before .before .coord .ensures) (c .before .before .parity-of .ensures) first) (found (c .before .coord2 .ensures) (c .parity-of2 .ensures) second))
 
-same-requires : tie.Need-same-requires
-same-requires c κs = search needs
-
-single-requires : tie.Need-single-requires
-single-requires c κs = search needs
-
-same-length : tie.Need-same-length
-same-length c = search needs
-
 returns : tie.Need-returns
 returns c =
     let called = c .before .before in
@@ -53,33 +45,6 @@ returns c =
     let a = test .before .before .before .args in
     called .single .ensures
     ∙ ap (λ (l : Listing). listedIn l (a .output .now)) (equal-ends (a .start) (a .end) (sym (test .before .same .ensures) ∙ test .if1 .taken))
-
-coord-requires : tie.Need-coord-requires
-coord-requires c κs = search needs
-
-parity-of-requires : tie.Need-parity-of-requires
-parity-of-requires c κs = search needs
-
-coord-requires-2 : tie.Need-coord-requires-2
-coord-requires-2 c κs = search needs
-
-parity-of-requires-2 : tie.Need-parity-of-requires-2
-parity-of-requires-2 c κs = search needs
-
-enum-known-first : tie.Need-enum-known-first
-enum-known-first c = search needs
-
-enum-told : tie.Need-enum-told
-enum-told c = search needs
-
-enum-known-second : tie.Need-enum-known-second
-enum-known-second c = search needs
-
-enum-told-2 : tie.Need-enum-told-2
-enum-told-2 c = search needs
-
-stretched-requires : tie.Need-stretched-requires
-stretched-requires c κs = search needs
 
 returns-2 : tie.Need-returns-2
 returns-2 c = answer (c .before .before .before) (c .before .first .given .1) refl
@@ -89,9 +54,6 @@ returns-3 c =
     let matched = c .before .before .before .before in
     let read = matched .before in
     answer read (answered (read .before .before .parity-of .result) (matched .match .keys2) .1) (c .before .second .given .1)
-
-same-length-2 : tie.Need-same-length-2
-same-length-2 c = search needs
 
 returns-4 : tie.Need-returns-4
 returns-4 c =
@@ -106,20 +68,20 @@ pub between-spec : {M : Type 1} → statement M
 between-spec =
     tie.close
     (tie.spec
-    same-requires
-    single-requires
-    same-length
+    (λ c κs. search needs)
+    (λ c κs. search needs)
+    (λ c. search needs)
     returns
-    coord-requires
-    parity-of-requires
-    coord-requires-2
-    parity-of-requires-2
-    enum-known-first
-    enum-told
-    enum-known-second
-    enum-told-2
-    stretched-requires
+    (λ c κs. search needs)
+    (λ c κs. search needs)
+    (λ c κs. search needs)
+    (λ c κs. search needs)
+    (λ c. search needs)
+    (λ c. search needs)
+    (λ c. search needs)
+    (λ c. search needs)
+    (λ c κs. search needs)
     returns-2
     returns-3
-    same-length-2
+    (λ c. search needs)
     returns-4)

@@ -7,15 +7,9 @@ use Rattle.line.specs.Line.{sampleOf}
 use Rattle.line.proofs.coordinate_at.Statement.{statement}
 use Rattle.line.proofs.coordinate_at.Tie as tie
 
-int-to-float-result : tie.Need-int-to-float-result
-int-to-float-result c = search needs
-
-int-to-float-result-2 : tie.Need-int-to-float-result-2
-int-to-float-result-2 c = search needs
-
 returns : tie.Need-returns
 unfolding sampleOf
 returns c = ap₂ (λ (s d : ℤ). sampleOf s d (c .before .before .args .t)) (toZ-ofZ (c .before .before .fits .from)) (toZ-ofZ (c .before .before .fits .by))
 
 pub coordinate-at-spec : {M : Type 1} → statement M
-coordinate-at-spec = tie.close (tie.spec int-to-float-result int-to-float-result-2 returns)
+coordinate-at-spec = tie.close (tie.spec (λ c. search needs) (λ c. search needs) returns)

@@ -1,9 +1,9 @@
 -- Each difference fits, so that it is read back from its bits as it is.
 use mathlib.Core.Path.{_≡_, sym, subst, _∙_}
 use Rattle.lattice.specs.Lattice.{Fitting}
-use Rattle.lattice.specs.Fields.{read, kept, kept-same}
+use Rattle.lattice.proofs.Fields.{read, kept, kept-same}
 use Rattle.line.specs.Line.{apart}
-use Rattle.line.specs.Laws.{short-fits}
+use Rattle.line.proofs.Laws.{short-fits}
 use Rattle.line.proofs.differences.Statement.{statement}
 use Rattle.line.proofs.differences.Tie as tie
 

@@ -12,7 +12,7 @@ use Rattle.refusal.specs.declared.Cell.{Cell}
 use Rattle.line.specs.declared.Line.{Line}
 use Rattle.line.specs.declared.Sample.the-variants.{New, Dropped}
 use Rattle.line.specs.Line.{sampled, cellsAlong}
-use Rattle.line.specs.Laws.{cellsFrom, along-from, after-dropped, after-new, end-last, end-appended}
+use Rattle.line.proofs.Laws.{cellsFrom, along-from, after-dropped, after-new, end-last, end-appended}
 use Rattle.line.proofs.Samples.{dropped}
 use Rattle.line.proofs.fits.Statement.{statement}
 use Rattle.line.proofs.fits.Tie as tie
@@ -55,24 +55,6 @@ returns c =
     let a = c .before .before .before .before .before .args in
     sym (lt-leb (length (cellsAlong (a .line))) (a .room) (omega arith))
 
-sampled-requires : tie.Need-sampled-requires Inv-loop μ-loop
-sampled-requires c κs = search needs
-
-enum-told : tie.Need-enum-told Inv-loop μ-loop
-enum-told c = search needs
-
-enum-known-c : tie.Need-enum-known-c Inv-loop μ-loop
-enum-known-c c = search needs
-
-sub-left : tie.Need-sub-left Inv-loop μ-loop
-sub-left c = search needs
-
-add-i : tie.Need-add-i Inv-loop μ-loop
-add-i c = search needs
-
-loop-less : tie.Need-loop-less Inv-loop μ-loop
-loop-less c = search needs
-
 loop-again : tie.Need-loop-again Inv-loop μ-loop
 loop-again c =
     let here = c .before .before .before .before .before .loop in
@@ -83,9 +65,6 @@ loop-again c =
     (λ w. dropped-counted (a .line) (a .room) (here .last) (here .left) (here .i) within (sym (told .ensures) ∙ dropped (told .result) (w .0 .keys1)) (w .2) (w .3) (here .inv))
     (λ w. new-counted (a .line) (a .room) (here .last) (here .left) (here .i) within (sym (told .ensures) ∙ w .1 .given .1) (w .3) (w .4) (omega arith) (here .inv))
     (c .match .came)
-
-same-requires : tie.Need-same-requires Inv-loop μ-loop
-same-requires c κs = search needs
 
 returns-2 : tie.Need-returns-2 Inv-loop μ-loop
 returns-2 c =
@@ -111,13 +90,13 @@ fits-spec =
     μ-loop
     loop-holds
     returns
-    sampled-requires
-    enum-told
-    enum-known-c
-    sub-left
-    add-i
-    loop-less
+    (λ c κs. search needs)
+    (λ c. search needs)
+    (λ c. search needs)
+    (λ c. search needs)
+    (λ c. search needs)
+    (λ c. search needs)
     loop-again
-    same-requires
+    (λ c κs. search needs)
     returns-2
     returns-3)

@@ -7,19 +7,13 @@ use lib.Dec.{leb}
 use lib.ListN.{length}
 use borrow.Author.Needs.{needs}
 use borrow.Author.Tests.{leb-true, leb-false}
-use Rattle.layer.specs.Changes.{changed}
-use Rattle.layer.specs.declared.CountAnswer.the-variants as count
-use Rattle.listing.specs.Listing.{roomIn}
-use Rattle.listing.specs.Laws.{cells-listed, cells-refused}
+use Rattle.general.specs.Changed.{changed}
+use Rattle.refusal.specs.declared.CountAnswer.the-variants as count
+use Rattle.cell_list.specs.Listing.{roomIn}
+use Rattle.cell_list.proofs.Laws.{cells-listed, cells-refused}
 use Rattle.line.specs.Line.{cellsAlong}
 use Rattle.line.proofs.listed.Statement.{statement}
 use Rattle.line.proofs.listed.Tie as tie
-
-room-requires : tie.Need-room-requires
-room-requires c κs = search needs
-
-has-room-requires : tie.Need-has-room-requires
-has-room-requires c κs = search needs
 
 -- the test, of the buffer's own room
 tested : (c : tie.After-has-room) {t : Bool} → c .has-room .result ≡ t → let a = c .before .before .before .before .args in leb (length (cellsAlong (a .line))) (roomIn (a .output .now)) ≡ t
@@ -33,9 +27,6 @@ write-requires c κs =
     let start = test .before .before .before .before .before in
     (start .pre, leb-true (length (cellsAlong (start .args .line))) (roomIn (start .args .output .now)) (tested (test .before) (test .if1 .taken)))
 
-same-length : tie.Need-same-length
-same-length c = search needs
-
 returns : tie.Need-returns
 returns c =
     let called = c .before .before in
@@ -43,9 +34,6 @@ returns c =
     let a = test .before .before .before .before .before .args in
     ap₂ (λ (n : ℕ) (l : List ℕ). changed (count.Cells n) l) (called .write .ensures .0) (called .write .ensures .1)
     ∙ sym (cells-listed (cellsAlong (a .line)) (a .output .now) (leb-true (length (cellsAlong (a .line))) (roomIn (a .output .now)) (tested (test .before) (test .if1 .taken))))
-
-same-length-2 : tie.Need-same-length-2
-same-length-2 c = search needs
 
 returns-2 : tie.Need-returns-2
 returns-2 c =
@@ -56,10 +44,10 @@ pub listed-spec : {M : Type 1} → statement M
 listed-spec =
     tie.close
     (tie.spec
-    room-requires
-    has-room-requires
+    (λ c κs. search needs)
+    (λ c κs. search needs)
     write-requires
-    same-length
+    (λ c. search needs)
     returns
-    same-length-2
+    (λ c. search needs)
     returns-2)

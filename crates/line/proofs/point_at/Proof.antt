@@ -5,19 +5,10 @@ use borrow.Author.Needs.{needs}
 use Rattle.refusal.proofs.Coord.{the-type}
 use Rattle.refusal.proofs.Coord.Laws.{the-laws}
 use Rattle.snap.specs.Snap.{point}
-use Rattle.lattice.specs.Fields.{read}
+use Rattle.lattice.proofs.Fields.{read}
 use Rattle.line.specs.Line.{sampleOf, samplePoint}
 use Rattle.line.proofs.point_at.Statement.{statement}
 use Rattle.line.proofs.point_at.Tie as tie
-
-coordinate-at-requires : tie.Need-coordinate-at-requires
-coordinate-at-requires c κs = search needs
-
-coordinate-at-requires-2 : tie.Need-coordinate-at-requires-2
-coordinate-at-requires-2 c κs = search needs
-
-coordinate-at-requires-3 : tie.Need-coordinate-at-requires-3
-coordinate-at-requires-3 c κs = search needs
 
 returns : tie.Need-returns
 unfolding samplePoint
@@ -37,4 +28,4 @@ returns c =
 pub point-at-spec : {M : Type 1} → statement M
 point-at-spec =
     tie.close
-    (tie.spec coordinate-at-requires coordinate-at-requires-2 coordinate-at-requires-3 returns)
+    (tie.spec (λ c κs. search needs) (λ c κs. search needs) (λ c κs. search needs) returns)

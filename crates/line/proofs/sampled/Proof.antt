@@ -30,33 +30,6 @@ out-of-range : (l : Line) (last : Cell) (a : CoordAnswer) → OneOf (1 ∷ []) (
 out-of-range l last (At c) h = absurd (omega (arith, h))
 out-of-range l last (Refused r) h = refl
 
-fraction-requires : tie.Need-fraction-requires
-fraction-requires c κs = search needs
-
-point-at-requires : tie.Need-point-at-requires
-point-at-requires c κs = search needs
-
-physical-to-lattice-requires : tie.Need-physical-to-lattice-requires
-physical-to-lattice-requires c κs = search needs
-
-enum-told : tie.Need-enum-told
-enum-told c = search needs
-
-enum-known-place : tie.Need-enum-known-place
-enum-known-place c = search needs
-
-frame-requires : tie.Need-frame-requires
-frame-requires c κs = search needs
-
-resolution-requires : tie.Need-resolution-requires
-resolution-requires c κs = search needs
-
-packed-requires : tie.Need-packed-requires
-packed-requires c κs = search needs
-
-same-requires : tie.Need-same-requires
-same-requires c κs = search needs
-
 returns : tie.Need-returns
 returns c =
     let snap = c .before .before in
@@ -87,15 +60,15 @@ pub sampled-spec : {M : Type 1} → statement M
 sampled-spec =
     tie.close
     (tie.spec
-    fraction-requires
-    point-at-requires
-    physical-to-lattice-requires
-    enum-told
-    enum-known-place
-    frame-requires
-    resolution-requires
-    packed-requires
-    same-requires
+    (λ c κs. search needs)
+    (λ c κs. search needs)
+    (λ c κs. search needs)
+    (λ c. search needs)
+    (λ c. search needs)
+    (λ c κs. search needs)
+    (λ c κs. search needs)
+    (λ c κs. search needs)
+    (λ c κs. search needs)
     returns
     returns-2
     returns-3)

@@ -4,28 +4,10 @@ use Prim.Native.Nat.{ℕ, _*_, max}
 use native.Mathlib.Omega.{arith}
 use lib.IntN.{natAbs}
 use borrow.Author.Needs.{needs}
-use Rattle.lattice.specs.Fields.{read}
+use Rattle.lattice.proofs.Fields.{read}
 use Rattle.line.specs.Line.{stepsOf}
 use Rattle.line.proofs.steps.Statement.{statement}
 use Rattle.line.proofs.steps.Tie as tie
-
-absolute-requires : tie.Need-absolute-requires
-absolute-requires c κs = search needs
-
-absolute-requires-2 : tie.Need-absolute-requires-2
-absolute-requires-2 c κs = search needs
-
-absolute-requires-3 : tie.Need-absolute-requires-3
-absolute-requires-3 c κs = search needs
-
-larger-requires : tie.Need-larger-requires
-larger-requires c κs = search needs
-
-larger-requires-2 : tie.Need-larger-requires-2
-larger-requires-2 c κs = search needs
-
-mul-result : tie.Need-mul-result
-mul-result c = search needs
 
 returns : tie.Need-returns
 unfolding stepsOf
@@ -45,10 +27,10 @@ pub steps-spec : {M : Type 1} → statement M
 steps-spec =
     tie.close
     (tie.spec
-    absolute-requires
-    absolute-requires-2
-    absolute-requires-3
-    larger-requires
-    larger-requires-2
-    mul-result
+    (λ c κs. search needs)
+    (λ c κs. search needs)
+    (λ c κs. search needs)
+    (λ c κs. search needs)
+    (λ c κs. search needs)
+    (λ c. search needs)
     returns)

@@ -3,7 +3,7 @@ use mathlib.Core.Path.{_≡_, sym, ap, _∙_}
 use mathlib.Core.Bool.{Bool}
 use borrow.Author.Needs.{needs}
 use Rattle.refusal.specs.declared.Coord.{Coord}
-use Rattle.listing.specs.Listing.{cells, listedIn}
+use Rattle.cell_list.specs.Listing.{cells, listedIn}
 use Rattle.line.specs.declared.Line.{Line}
 use Rattle.line.specs.Line.{apart, areShort, stepsOf, lineBetween, cellsAlong, lineShort}
 use Rattle.line.proofs.stretched.Statement.{statement}
@@ -13,26 +13,8 @@ use Rattle.line.proofs.stretched.Tie as tie
 tested : {s s′ e e′ : Coord} {r t : Bool} → s ≡ s′ → e ≡ e′ → r ≡ areShort (apart s e) → r ≡ t → areShort (apart s′ e′) ≡ t
 tested first second told known = (λ i. areShort (apart (sym first i) (sym second i))) ∙ sym told ∙ known
 
-coord-requires : tie.Need-coord-requires
-coord-requires c κs = search needs
-
-coord-requires-2 : tie.Need-coord-requires-2
-coord-requires-2 c κs = search needs
-
-are-short-requires : tie.Need-are-short-requires
-are-short-requires c κs = search needs
-
 differences-requires : tie.Need-differences-requires
 differences-requires c κs = sym (c .before .are-short .ensures) ∙ c .if1 .taken
-
-steps-requires : tie.Need-steps-requires
-steps-requires c κs = search needs
-
-listed-requires : tie.Need-listed-requires
-listed-requires c κs = search needs
-
-same-length : tie.Need-same-length
-same-length c = search needs
 
 returns : tie.Need-returns
 returns c =
@@ -61,12 +43,12 @@ pub stretched-spec : {M : Type 1} → statement M
 stretched-spec =
     tie.close
     (tie.spec
-    coord-requires
-    coord-requires-2
-    are-short-requires
+    (λ c κs. search needs)
+    (λ c κs. search needs)
+    (λ c κs. search needs)
     differences-requires
-    steps-requires
-    listed-requires
-    same-length
+    (λ c κs. search needs)
+    (λ c κs. search needs)
+    (λ c. search needs)
     returns
     returns-2)

@@ -5,35 +5,15 @@ use Prim.Native.Nat.{ℕ}
 use borrow.Author.Needs.{needs}
 use Rattle.cell.specs.declared.CellAnswer.{CellAnswer}
 use Rattle.cell.specs.Bytes.{fromBytesOf}
-use Rattle.listing.specs.Listing.{listedIn}
-use Rattle.line.specs.Line.{lineFrom, traceIn}
+use Rattle.cell_list.specs.Listing.{listedIn}
+use Rattle.line.proofs.Split.{lineFrom}
+use Rattle.line.specs.Line.{traceIn}
 use Rattle.line.proofs.trace_line.Statement.{statement}
 use Rattle.line.proofs.trace_line.Tie as tie
 
 by-bytes : (s e l : List ℕ) {a b a′ b′ : CellAnswer} → a ≡ fromBytesOf s → b ≡ fromBytesOf e → a ≡ a′ → b ≡ b′ → listedIn (lineFrom a′ b′) l ≡ traceIn s e l
 unfolding traceIn
 by-bytes s e l first second p q = ap₂ (λ (a b : CellAnswer). listedIn (lineFrom a b) l) (sym p ∙ first) (sym q ∙ second)
-
-from-bytes-requires : tie.Need-from-bytes-requires
-from-bytes-requires c κs = search needs
-
-from-bytes-requires-2 : tie.Need-from-bytes-requires-2
-from-bytes-requires-2 c κs = search needs
-
-enum-known-first : tie.Need-enum-known-first
-enum-known-first c = search needs
-
-enum-known-first-2 : tie.Need-enum-known-first-2
-enum-known-first-2 c = search needs
-
-enum-known-second : tie.Need-enum-known-second
-enum-known-second c = search needs
-
-enum-known-second-2 : tie.Need-enum-known-second-2
-enum-known-second-2 c = search needs
-
-between-requires : tie.Need-between-requires
-between-requires c κs = search needs
 
 returns : tie.Need-returns
 returns c =
@@ -47,9 +27,6 @@ returns-2 c =
     let read = first .before .before in
     let a = read .before .before .before .before .before .args in
     by-bytes (a .start .now) (a .end .now) (a .output .now) (read .before .from-bytes .ensures) (read .from-bytes2 .ensures) (first .first2 .given .1) (c .before .second .given .1)
-
-same-length : tie.Need-same-length
-same-length c = search needs
 
 returns-3 : tie.Need-returns-3
 returns-3 c =
@@ -65,14 +42,14 @@ pub trace-line-spec : {M : Type 1} → statement M
 trace-line-spec =
     tie.close
     (tie.spec
-    from-bytes-requires
-    from-bytes-requires-2
-    enum-known-first
-    enum-known-first-2
-    enum-known-second
-    enum-known-second-2
-    between-requires
+    (λ c κs. search needs)
+    (λ c κs. search needs)
+    (λ c. search needs)
+    (λ c. search needs)
+    (λ c. search needs)
+    (λ c. search needs)
+    (λ c κs. search needs)
     returns
     returns-2
-    same-length
+    (λ c. search needs)
     returns-3)

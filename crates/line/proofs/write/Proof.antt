@@ -8,12 +8,13 @@ use native.Mathlib.Omega.{arith}
 use lib.ListN.{length}
 use borrow.Author.Needs.{needs}
 use Rattle.refusal.specs.declared.Cell.{Cell}
-use Rattle.listing.specs.Listing.{cellPut, cellsLaid}
-use Rattle.listing.specs.Writing.{Written, nothing-written, rest-same, next-written, next-within, written-and-rest, written-length, all-counted, all-laid}
+use Rattle.cell_list.specs.Inner.Listing.{cellPut}
+use Rattle.cell_list.specs.Listing.{cellsLaid}
+use Rattle.cell_list.proofs.Writing.{Written, nothing-written, rest-same, next-written, next-within, written-and-rest, written-length, all-counted, all-laid}
 use Rattle.line.specs.declared.Line.{Line}
 use Rattle.line.specs.declared.Sample.the-variants.{New, Dropped}
 use Rattle.line.specs.Line.{sampled, cellsAlong}
-use Rattle.line.specs.Laws.{cellsFrom, along-from, after-dropped, after-new, end-last, end-appended, length-along}
+use Rattle.line.proofs.Laws.{cellsFrom, along-from, after-dropped, after-new, end-last, end-appended, length-along}
 use Rattle.line.proofs.Samples.{dropped}
 use Rattle.line.proofs.write.Statement.{statement}
 use Rattle.line.proofs.write.Tie as tie
@@ -68,15 +69,6 @@ count-small c =
     let start = c .before .before .before .before .before .before .before in
     omega (arith, start .pre .0, length-along (start .args .line), written-and-rest (cellsAlong (start .args .line)) (start .args .output .now) (c .loop .output) (cellsFrom (start .args .line) (c .loop .last) (c .loop .i)) (c .loop .count) (so-far c))
 
-sampled-requires : tie.Need-sampled-requires Inv-loop μ-loop
-sampled-requires c κs = search needs
-
-enum-told : tie.Need-enum-told Inv-loop μ-loop
-enum-told c = search needs
-
-enum-known-c : tie.Need-enum-known-c Inv-loop μ-loop
-enum-known-c c = search needs
-
 put-requires-2 : tie.Need-put-requires-2 Inv-loop μ-loop
 put-requires-2 c κs =
     let told = c .before .before .before .before in
@@ -86,12 +78,6 @@ put-requires-2 c κs =
 
 add-count : tie.Need-add-count Inv-loop μ-loop
 add-count c = omega (arith, count-small (c .before .before .before .before .before .before .before .before .before .before))
-
-add-i : tie.Need-add-i Inv-loop μ-loop
-add-i c = search needs
-
-loop-less : tie.Need-loop-less Inv-loop μ-loop
-loop-less c = search needs
 
 loop-again : tie.Need-loop-again Inv-loop μ-loop
 loop-again c entry e =
@@ -103,9 +89,6 @@ loop-again c entry e =
     (λ w. dropped-written line entry (here .output) (here .last) (here .count) (here .i) within (here .inv entry e) (sym (told .ensures) ∙ dropped (told .result) (w .0 .keys1)) (w .2) (w .3) (w .4))
     (λ w. new-written line entry (here .output) (here .last) (here .count) (here .i) within (here .inv entry e) (sym (told .ensures) ∙ w .1 .given .1) (w .7 ∙ w .4 .ensures) (w .8) (w .9))
     (c .match .came)
-
-same-requires : tie.Need-same-requires Inv-loop μ-loop
-same-requires c κs = search needs
 
 same-length : tie.Need-same-length Inv-loop μ-loop
 same-length c =
@@ -161,15 +144,15 @@ write-spec =
     μ-loop
     put-requires
     loop-holds
-    sampled-requires
-    enum-told
-    enum-known-c
+    (λ c κs. search needs)
+    (λ c. search needs)
+    (λ c. search needs)
     put-requires-2
     add-count
-    add-i
-    loop-less
+    (λ c. search needs)
+    (λ c. search needs)
     loop-again
-    same-requires
+    (λ c κs. search needs)
     same-length
     returns
     put-requires-3

@@ -1,8 +1,8 @@
--- Each refusal by its kind. Assumes nothing.
+-- Each refusal by its kind.
 use borrow.Author.Needs.{needs}
 use mathlib.Core.Path.{sym, ap, _∙_}
 use Prim.Native.Nat.{ℕ}
-use Rattle.refusal.specs.Table.{carrying, noCoord, noneSpent, noEnds, rowOf}
+use Rattle.refusal.specs.Refusals.{carrying, noCoord, noneSpent, noEnds, rowOf}
 use Rattle.refusal.proofs.row_of.Statement.{statement}
 use Rattle.refusal.proofs.row_of.Tie as tie
 

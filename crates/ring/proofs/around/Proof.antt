@@ -6,33 +6,15 @@ use Rattle.ring.proofs.Ringed.{rooms-tested, ringed-bad, ringed-walked}
 use Rattle.ring.proofs.around.Statement.{statement}
 use Rattle.ring.proofs.around.Tie as tie
 
-has-rooms-requires : tie.Need-has-rooms-requires
-has-rooms-requires c κs = search needs
-
-same-length : tie.Need-same-length
-same-length c = search needs
-
 returns : tie.Need-returns
 returns c =
     let args = c .before .before .before .before .before .before .args in
     ringed-bad (args .every) (args .center .now) (args .k) (args .known) (args .waiting) (args .workspace .now) (args .output .now) (sym (c .before .has-rooms .ensures) ∙ not-true _ (c .if1 .taken))
 
-room-requires : tie.Need-room-requires
-room-requires c κs = search needs
-
 walk-from-requires : tie.Need-walk-from-requires
 walk-from-requires c κs =
     let args = c .before .before .before .before .before .before .before .before .before .before .args in
     (rooms-tested (args .known) (args .waiting) (args .workspace .now) (sym (c .before .before .before .before .before .has-rooms .ensures) ∙ not-false _ (c .before .before .before .before .if1 .left)), c .before .before .room .ensures)
-
-wipe-requires : tie.Need-wipe-requires
-wipe-requires c κs = search needs
-
-same-length-2 : tie.Need-same-length-2
-same-length-2 c = search needs
-
-same-length-3 : tie.Need-same-length-3
-same-length-3 c = search needs
 
 returns-2 : tie.Need-returns-2
 returns-2 c =
@@ -46,12 +28,12 @@ pub around-spec : {M : Type 1} → statement M
 around-spec =
     tie.close
     (tie.spec
-    has-rooms-requires
-    same-length
+    (λ c κs. search needs)
+    (λ c. search needs)
     returns
-    room-requires
+    (λ c κs. search needs)
     walk-from-requires
-    wipe-requires
-    same-length-2
-    same-length-3
+    (λ c κs. search needs)
+    (λ c. search needs)
+    (λ c. search needs)
     returns-2)

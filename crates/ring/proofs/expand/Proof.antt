@@ -4,26 +4,11 @@ use Rattle.ring.proofs.Expanded.{expanded-refused, expanded}
 use Rattle.ring.proofs.expand.Statement.{statement}
 use Rattle.ring.proofs.expand.Tie as tie
 
-get-neighbors-requires : tie.Need-get-neighbors-requires
-get-neighbors-requires c κs = search needs
-
-enum-known-outcome : tie.Need-enum-known-outcome
-enum-known-outcome c = search needs
-
-enum-told : tie.Need-enum-told
-enum-told c = search needs
-
-see-all-requires : tie.Need-see-all-requires
-see-all-requires c κs = search needs
-
 returns : tie.Need-returns
 returns c =
     let start = c .before .before .before .before .before .before in
     let near = c .before .before .before .before .get-neighbors in
     expanded-refused (start .args .rooms) (start .args .next) (start .args .count) (start .args .workspace .now) (start .args .c) (near .result) (near .ensures) (c .before .outcome .given .1)
-
-same-length : tie.Need-same-length
-same-length c = search needs
 
 returns-2 : tie.Need-returns-2
 returns-2 c =
@@ -37,10 +22,10 @@ pub expand-spec : {M : Type 1} → statement M
 expand-spec =
     tie.close
     (tie.spec
-    get-neighbors-requires
-    enum-known-outcome
-    enum-told
-    see-all-requires
+    (λ c κs. search needs)
+    (λ c. search needs)
+    (λ c. search needs)
+    (λ c κs. search needs)
     returns
-    same-length
+    (λ c. search needs)
     returns-2)

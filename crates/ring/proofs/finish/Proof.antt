@@ -5,8 +5,8 @@ use mathlib.Core.Logic.{⊎-elim, inl, inr}
 use Prim.Native.Nat.{ℕ, _-_}
 use native.Mathlib.Omega.{arith}
 use borrow.Author.Needs.{needs}
-use Rattle.layer.specs.Changes.{changed}
-use Rattle.layer.specs.declared.CountAnswer.the-variants as count
+use Rattle.general.specs.Changed.{changed}
+use Rattle.refusal.specs.declared.CountAnswer.the-variants as count
 use Rattle.ring.proofs.Finished.{firstOf, first-chosen, first-within, finished-all, finished-refused}
 use Rattle.ring.proofs.finish.Statement.{statement}
 use Rattle.ring.proofs.finish.Tie as tie
@@ -24,25 +24,23 @@ sub-count c =
     let choice = c .before .before in
     let start = choice .before .before .before in
     let args = start .args in
-    omega (arith, first-within (args .every) (args .last .from) (choice .if1 .first) (chosen choice), start .pre .1 .0)
+    omega (arith, first-within (args .every) (args .last .from) (choice .if1 .first) (chosen choice), start .pre .ordered)
 
 returns : tie.Need-returns
 returns c =
     let choice = c .before .before .before .before in
     let start = choice .before .before .before in
     let args = start .args in
-    finished-refused (args .every) (args .workspace .now) (args .rooms) (args .last .from) (args .last .to) (choice .if1 .first) (args .output .now) (start .pre .1 .0) (chosen choice) (start .pre .1 .1 .0) (c .if2 .taken)
+    finished-refused (args .every) (args .workspace .now) (args .rooms) (args .last .from) (args .last .to) (choice .if1 .first) (args .output .now) (start .pre .ordered) (chosen choice) (start .pre .listed) (c .if2 .taken)
 
 write-requires : tie.Need-write-requires
 write-requires c κs =
-    let choice = c .before .before .before .before .before in
+    let tested = c .before in
+    let choice = tested .before .before .before .before in
     let start = choice .before .before .before in
     let args = start .args in
     let within = first-within (args .every) (args .last .from) (choice .if1 .first) (chosen choice) in
-    (start .pre .0, (omega (arith, start .pre .1 .0), omega (arith, start .pre .1 .1 .1)))
-
-same-length : tie.Need-same-length
-same-length c = search needs
+    record { known = start .pre .known; ordered = omega (arith, start .pre .ordered); room-left = omega (arith, start .pre .same-room) }
 
 returns-2 : tie.Need-returns-2
 returns-2 c =
@@ -53,7 +51,7 @@ returns-2 c =
     let args = start .args in
     let first = choice .if1 .first in
     ap (λ (l : List ℕ). changed (count.Cells (args .last .to - first)) l) (written .write .ensures)
-    ∙ finished-all (args .every) (args .workspace .now) (args .rooms) (args .last .from) (args .last .to) first (args .output .now) (start .pre .1 .0) (chosen choice) (tested .if2 .left)
+    ∙ finished-all (args .every) (args .workspace .now) (args .rooms) (args .last .from) (args .last .to) first (args .output .now) (start .pre .ordered) (chosen choice) (tested .if2 .left)
 
 pub finish-spec : {M : Type 1} → statement M
-finish-spec = tie.close (tie.spec sub-count returns write-requires same-length returns-2)
+finish-spec = tie.close (tie.spec sub-count returns write-requires (λ c. search needs) returns-2)

@@ -7,16 +7,10 @@ use lib.Dec.{leb}
 use lib.ListN.{length}
 use borrow.Author.Needs.{needs}
 use Rattle.known.specs.Workspace.{isRoom}
-use Rattle.known.specs.WorkspaceLaws.{room-tested}
+use Rattle.known.proofs.WorkspaceLaws.{room-tested}
 use Rattle.ring.specs.Ring.{hasRooms}
 use Rattle.ring.proofs.has_rooms.Statement.{statement}
 use Rattle.ring.proofs.has_rooms.Tie as tie
-
-is-room-requires : tie.Need-is-room-requires
-is-room-requires c κs = search needs
-
-is-room-requires-2 : tie.Need-is-room-requires-2
-is-room-requires-2 c κs = search needs
 
 mul-result : tie.Need-mul-result
 mul-result c =
@@ -50,4 +44,4 @@ returns-3 c =
 
 pub has-rooms-spec : {M : Type 1} → statement M
 has-rooms-spec =
-    tie.close (tie.spec is-room-requires is-room-requires-2 mul-result returns returns-2 returns-3)
+    tie.close (tie.spec (λ c κs. search needs) (λ c κs. search needs) mul-result returns returns-2 returns-3)

@@ -21,9 +21,6 @@ loop-holds c =
     let args = start .args in
     level-none (args .every) (args .rooms) (args .from) (args .to) (args .workspace .now) (start .pre .0) (omega arith)
 
-same-length : tie.Need-same-length Inv-loop μ-loop
-same-length c = search needs
-
 returns : tie.Need-returns Inv-loop μ-loop
 returns c = (no-output-room (c .before .before .before .before .loop .inv) (omega arith) (c .before .before .if1 .taken) (omega arith), tt)
 
@@ -35,20 +32,11 @@ cell-at-requires c κs =
     let more = here .grown .more in
     (known .roomy, omega arith)
 
-add-expand : tie.Need-add-expand Inv-loop μ-loop
-add-expand c = search needs
-
 expand-requires : tie.Need-expand-requires Inv-loop μ-loop
 expand-requires c κs =
     let here = c .before .before .before .before .before .loop .inv in
     let more = here .grown .more in
     (here .grown .known, omega arith)
-
-enum-known-r : tie.Need-enum-known-r Inv-loop μ-loop
-enum-known-r c = search needs
-
-same-length-2 : tie.Need-same-length-2 Inv-loop μ-loop
-same-length-2 c = search needs
 
 returns-2 : tie.Need-returns-2 Inv-loop μ-loop
 returns-2 c =
@@ -57,24 +45,12 @@ returns-2 c =
     let here = read .before .before .before .before .loop in
     (level-stopped (here .inv) _ (omega arith) (λ ring. ⊎-elim (λ w. omega arith) (λ w. absurd (true≢false (sym ring ∙ w .left))) (read .before .before .if1 .came)) (c .before .r .given .1) (read .cell-at .ensures) (called .expand .ensures), tt)
 
-enum-known-more : tie.Need-enum-known-more Inv-loop μ-loop
-enum-known-more c = search needs
-
-add-i : tie.Need-add-i Inv-loop μ-loop
-add-i c = search needs
-
-loop-less : tie.Need-loop-less Inv-loop μ-loop
-loop-less c = search needs
-
 loop-again : tie.Need-loop-again Inv-loop μ-loop
 loop-again c =
     let called = c .before .before .before .before .before in
     let read = called .before .before in
     let here = read .before .before .before .before .loop in
     level-more (here .inv) _ (omega arith) (λ ring. ⊎-elim (λ w. omega arith) (λ w. absurd (true≢false (sym ring ∙ w .left))) (read .before .before .if1 .came)) (c .before .more .given .1) (read .cell-at .ensures) (called .expand .ensures)
-
-same-length-3 : tie.Need-same-length-3 Inv-loop μ-loop
-same-length-3 c = search needs
 
 returns-3 : tie.Need-returns-3 Inv-loop μ-loop
 returns-3 c = level-all (c .before .loop .inv) (omega arith)
@@ -86,17 +62,17 @@ level-spec =
     Inv-loop
     μ-loop
     loop-holds
-    same-length
+    (λ c. search needs)
     returns
     cell-at-requires
-    add-expand
+    (λ c. search needs)
     expand-requires
-    enum-known-r
-    same-length-2
+    (λ c. search needs)
+    (λ c. search needs)
     returns-2
-    enum-known-more
-    add-i
-    loop-less
+    (λ c. search needs)
+    (λ c. search needs)
+    (λ c. search needs)
     loop-again
-    same-length-3
+    (λ c. search needs)
     returns-3)

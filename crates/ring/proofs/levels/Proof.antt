@@ -16,9 +16,6 @@ loop-holds c =
     let args = c .before .args in
     stepped-none (args .every) (args .rooms) (args .k) (args .workspace .now) (c .before .pre)
 
-same-length : tie.Need-same-length Inv-loop μ-loop
-same-length c = search needs
-
 returns : tie.Need-returns Inv-loop μ-loop
 returns c = stepped-empty (c .before .before .loop .inv) (omega arith)
 
@@ -27,35 +24,17 @@ level-requires c κs =
     let here = c .before .before .before .loop .inv in
     (here .known, here .ordered)
 
-enum-known-r : tie.Need-enum-known-r Inv-loop μ-loop
-enum-known-r c = search needs
-
-same-length-2 : tie.Need-same-length-2 Inv-loop μ-loop
-same-length-2 c = search needs
-
 returns-2 : tie.Need-returns-2 Inv-loop μ-loop
 returns-2 c =
     let called = c .before .before .before .before .before in
     let here = called .before .before .before .before .loop in
     stepped-stopped (here .inv) _ (omega arith) (c .before .r .given .1) (called .level .ensures .0)
 
-enum-known-more : tie.Need-enum-known-more Inv-loop μ-loop
-enum-known-more c = search needs
-
-sub-left : tie.Need-sub-left Inv-loop μ-loop
-sub-left c = search needs
-
-loop-less : tie.Need-loop-less Inv-loop μ-loop
-loop-less c = search needs
-
 loop-again : tie.Need-loop-again Inv-loop μ-loop
 loop-again c =
     let called = c .before .before .before .before .before in
     let here = called .before .before .before .before .loop in
     stepped-more (here .inv) _ (omega arith) (c .before .more .given .1) (called .level .ensures .0) (called .level .ensures .1)
-
-same-length-3 : tie.Need-same-length-3 Inv-loop μ-loop
-same-length-3 c = search needs
 
 returns-3 : tie.Need-returns-3 Inv-loop μ-loop
 returns-3 c = stepped-all (c .before .loop .inv) (omega arith)
@@ -67,15 +46,15 @@ levels-spec =
     Inv-loop
     μ-loop
     loop-holds
-    same-length
+    (λ c. search needs)
     returns
     level-requires
-    enum-known-r
-    same-length-2
+    (λ c. search needs)
+    (λ c. search needs)
     returns-2
-    enum-known-more
-    sub-left
-    loop-less
+    (λ c. search needs)
+    (λ c. search needs)
+    (λ c. search needs)
     loop-again
-    same-length-3
+    (λ c. search needs)
     returns-3)

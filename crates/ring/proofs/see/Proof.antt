@@ -2,26 +2,14 @@
 use mathlib.Core.Path.{subst}
 use native.Mathlib.Omega.{arith}
 use borrow.Author.Needs.{needs}
-use Rattle.cell.specs.Laws.{Words}
+use Rattle.cell.specs.Terms.{Words}
 use Rattle.words.specs.Word.{Bytes}
-use Rattle.known.specs.Found.{Right}
+use Rattle.known.specs.Inner.Found.{Right}
 use Rattle.known.proofs.Sought.{found-by}
 use Rattle.known.proofs.Added.{added-by}
 use Rattle.ring.proofs.Seen.{seen-known, no-known-room, no-waiting-room, seen-new}
 use Rattle.ring.proofs.see.Statement.{statement}
 use Rattle.ring.proofs.see.Tie as tie
-
-find-requires : tie.Need-find-requires
-find-requires c κs = search needs
-
-enum-told : tie.Need-enum-told
-enum-told c = search needs
-
-enum-told-2 : tie.Need-enum-told-2
-enum-told-2 c = search needs
-
-same-length : tie.Need-same-length
-same-length c = search needs
 
 returns : tie.Need-returns
 returns c =
@@ -31,12 +19,6 @@ returns c =
     let words : Words (args .c) = record { high-word = omega (arith, start .good); low-word = omega (arith, start .good) } in
     no-known-room (args .rooms) (args .next) (args .count) (args .workspace .now) (args .c) (start .pre .0) bytes words (subst (Right (args .workspace .now) (args .rooms .known) (args .count) (args .c)) (c .before .before .enum-told2 .given .1) (found-by (args .workspace .now) (args .rooms .known) (args .count) (args .c) (start .pre .0) bytes words _ (c .before .before .before .before .find .ensures))) (omega arith)
 
-sub-if2 : tie.Need-sub-if2
-sub-if2 c = search needs
-
-same-length-2 : tie.Need-same-length-2
-same-length-2 c = search needs
-
 returns-2 : tie.Need-returns-2
 returns-2 c =
     let start = c .before .before .before .before .before .before .before .before .before in
@@ -45,15 +27,6 @@ returns-2 c =
     let words : Words (args .c) = record { high-word = omega (arith, start .good); low-word = omega (arith, start .good) } in
     no-waiting-room (args .rooms) (args .next) (args .count) (args .workspace .now) (args .c) (start .pre .0) bytes words (subst (Right (args .workspace .now) (args .rooms .known) (args .count) (args .c)) (c .before .before .before .before .enum-told2 .given .1) (found-by (args .workspace .now) (args .rooms .known) (args .count) (args .c) (start .pre .0) bytes words _ (c .before .before .before .before .before .before .find .ensures))) (omega arith) (omega arith)
 
-add-requires : tie.Need-add-requires
-add-requires c κs = search needs
-
-add-t13 : tie.Need-add-t13
-add-t13 c = search needs
-
-same-length-3 : tie.Need-same-length-3
-same-length-3 c = search needs
-
 returns-3 : tie.Need-returns-3
 returns-3 c =
     let start = c .before .before .before .before .before in
@@ -61,9 +34,6 @@ returns-3 c =
     let bytes : Bytes (args .workspace .now) = (λ i. omega (arith, c .before .before .before .before .slice-known .given i)) in
     let words : Words (args .c) = record { high-word = omega (arith, start .good); low-word = omega (arith, start .good) } in
     seen-known (args .rooms) (args .next) (args .count) (args .workspace .now) (args .c) (start .pre .0) _ (subst (Right (args .workspace .now) (args .rooms .known) (args .count) (args .c)) (c .enum-told .given .1) (found-by (args .workspace .now) (args .rooms .known) (args .count) (args .c) (start .pre .0) bytes words _ (c .before .before .find .ensures)))
-
-same-length-4 : tie.Need-same-length-4
-same-length-4 c = search needs
 
 returns-4 : tie.Need-returns-4
 returns-4 c =
@@ -77,17 +47,17 @@ pub see-spec : {M : Type 1} → statement M
 see-spec =
     tie.close
     (tie.spec
-    find-requires
-    enum-told
-    enum-told-2
-    same-length
+    (λ c κs. search needs)
+    (λ c. search needs)
+    (λ c. search needs)
+    (λ c. search needs)
     returns
-    sub-if2
-    same-length-2
+    (λ c. search needs)
+    (λ c. search needs)
     returns-2
-    add-requires
-    add-t13
-    same-length-3
+    (λ c κs. search needs)
+    (λ c. search needs)
+    (λ c. search needs)
     returns-3
-    same-length-4
+    (λ c. search needs)
     returns-4)

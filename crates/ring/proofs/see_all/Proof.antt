@@ -18,24 +18,12 @@ loop-holds c =
     let args = start .args in
     seen-none (args .rooms) (args .next) (args .count) (args .workspace .now) (args .t5) (search needs) (omega arith) (start .pre .0)
 
-mul-see : tie.Need-mul-see Inv-loop μ-loop
-mul-see c = search needs
-
-array-copy-out-see : tie.Need-array-copy-out-see Inv-loop μ-loop
-array-copy-out-see c = search needs
-
 see-requires : tie.Need-see-requires Inv-loop μ-loop
 see-requires c κs =
     let here = c .before .before .before .loop .inv in
     let before = here .waiting in
     let more = here .grown .more in
     (here .grown .known, omega arith)
-
-enum-known-r : tie.Need-enum-known-r Inv-loop μ-loop
-enum-known-r c = search needs
-
-same-length : tie.Need-same-length Inv-loop μ-loop
-same-length c = search needs
 
 returns : tie.Need-returns Inv-loop μ-loop
 returns c =
@@ -44,24 +32,12 @@ returns c =
     let here = called .before .before .before .before .loop in
     seen-stopped (here .inv) _ (record { high = 0; low = 0 }) (omega arith) (c .before .r .given .1) (called .see .ensures)
 
-enum-known-more : tie.Need-enum-known-more Inv-loop μ-loop
-enum-known-more c = search needs
-
-add-i : tie.Need-add-i Inv-loop μ-loop
-add-i c = search needs
-
-loop-less : tie.Need-loop-less Inv-loop μ-loop
-loop-less c = search needs
-
 loop-again : tie.Need-loop-again Inv-loop μ-loop
 loop-again c =
     let told = c .before .before in
     let called = told .before .before .before in
     let here = called .before .before .before .before .loop in
     seen-more (here .inv) _ (record { high = 0; low = 0 }) (omega arith) (c .before .more .given .1) (called .see .ensures)
-
-same-length-2 : tie.Need-same-length-2 Inv-loop μ-loop
-same-length-2 c = search needs
 
 returns-2 : tie.Need-returns-2 Inv-loop μ-loop
 returns-2 c = seen-all (c .before .loop .inv) (omega arith)
@@ -73,15 +49,15 @@ see-all-spec =
     Inv-loop
     μ-loop
     loop-holds
-    mul-see
-    array-copy-out-see
+    (λ c. search needs)
+    (λ c. search needs)
     see-requires
-    enum-known-r
-    same-length
+    (λ c. search needs)
+    (λ c. search needs)
     returns
-    enum-known-more
-    add-i
-    loop-less
+    (λ c. search needs)
+    (λ c. search needs)
+    (λ c. search needs)
     loop-again
-    same-length-2
+    (λ c. search needs)
     returns-2)

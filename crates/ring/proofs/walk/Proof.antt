@@ -1,18 +1,12 @@
 -- From the one known cell to the last cells, which are listed.
 use native.Mathlib.Omega.{arith}
 use borrow.Author.Needs.{needs}
-use Rattle.cell.specs.Laws.{Words}
+use Rattle.cell.specs.Terms.{Words}
 use Rattle.known.proofs.Emptied.{emptied-by}
 use Rattle.known.proofs.Added.{added-by}
 use Rattle.ring.proofs.Started.{walked-stopped, walked-last, walked-all}
 use Rattle.ring.proofs.walk.Statement.{statement}
 use Rattle.ring.proofs.walk.Tie as tie
-
-clear-requires : tie.Need-clear-requires
-clear-requires c κs = search needs
-
-add-requires : tie.Need-add-requires
-add-requires c κs = search needs
 
 levels-requires : tie.Need-levels-requires
 levels-requires c κs =
@@ -24,12 +18,6 @@ levels-requires c κs =
     let none = emptied-by (args .workspace .now) _ (args .rooms .known) (start .pre .0) (emptied .clear .ensures) in
     let one = added-by _ (args .rooms .known) 0 (args .c) (none .known) (start .pre .0 .least) words _ (added .add .ensures) in
     one .known
-
-enum-known-r : tie.Need-enum-known-r
-enum-known-r c = search needs
-
-enum-known-last : tie.Need-enum-known-last
-enum-known-last c = search needs
 
 finish-requires : tie.Need-finish-requires
 finish-requires c κs =
@@ -43,10 +31,7 @@ finish-requires c κs =
     let none = emptied-by (args .workspace .now) _ (args .rooms .known) (start .pre .0) (emptied .clear .ensures) in
     let one = added-by _ (args .rooms .known) 0 (args .c) (none .known) (start .pre .0 .least) words _ (added .add .ensures) in
     let last = walked-last (args .every) (args .rooms) (args .k) (args .c) (args .workspace .now) _ _ none one _ (levels .levels .result) (levels .levels .ensures) _ (told .last .given .1) in
-    (last .known, (last .ordered, (last .listed, start .pre .1)))
-
-same-length : tie.Need-same-length
-same-length c = search needs
+    record { known = last .known; ordered = last .ordered; listed = last .listed; same-room = start .pre .1 }
 
 returns : tie.Need-returns
 returns c =
@@ -59,12 +44,6 @@ returns c =
     let none = emptied-by (args .workspace .now) _ (args .rooms .known) (start .pre .0) (emptied .clear .ensures) in
     let one = added-by _ (args .rooms .known) 0 (args .c) (none .known) (start .pre .0 .least) words _ (added .add .ensures) in
     walked-stopped (args .every) (args .rooms) (args .k) (args .c) (args .workspace .now) _ _ none one _ (levels .levels .result) (levels .levels .ensures) _ (args .output .now) (c .before .r .given .1)
-
-same-length-2 : tie.Need-same-length-2
-same-length-2 c = search needs
-
-same-length-3 : tie.Need-same-length-3
-same-length-3 c = search needs
 
 returns-2 : tie.Need-returns-2
 returns-2 c =
@@ -83,14 +62,14 @@ pub walk-spec : {M : Type 1} → statement M
 walk-spec =
     tie.close
     (tie.spec
-    clear-requires
-    add-requires
+    (λ c κs. search needs)
+    (λ c κs. search needs)
     levels-requires
-    enum-known-r
-    enum-known-last
+    (λ c. search needs)
+    (λ c. search needs)
     finish-requires
-    same-length
+    (λ c. search needs)
     returns
-    same-length-2
-    same-length-3
+    (λ c. search needs)
+    (λ c. search needs)
     returns-2)

@@ -3,8 +3,8 @@ use mathlib.Core.Path.{ap, _∙_}
 use Prim.Native.Nat.{ℕ, _-_}
 use native.Mathlib.Omega.{arith}
 use borrow.Author.Needs.{needs}
-use Rattle.known.specs.Known.{cellsIn}
-use Rattle.listing.specs.Listing.{cellsLaid}
+use Rattle.known.specs.Inner.Known.{cellsIn}
+use Rattle.cell_list.specs.Listing.{cellsLaid}
 use Rattle.ring.proofs.Written.{Written, written-none, length-written, place-within, written-more}
 use Rattle.ring.proofs.write.Statement.{statement}
 use Rattle.ring.proofs.write.Tie as tie
@@ -15,33 +15,18 @@ Inv-loop workspace room from to output₀ size i₀ output i = Written workspace
 abbrev μ-loop : tie.MeasureT-loop
 μ-loop workspace room from to output₀ size i₀ output i = size - i
 
-sub-size : tie.Need-sub-size Inv-loop μ-loop
-sub-size c = search needs
-
 loop-holds : tie.Need-loop-holds Inv-loop μ-loop
 loop-holds c =
     let start = c .before .before in
     let args = start .args in
-    written-none (args .workspace .now) (args .room) (args .from) (args .to - args .from) (args .output .now) (start .pre .1 .1)
-
-add-cell-at : tie.Need-add-cell-at Inv-loop μ-loop
-add-cell-at c = search needs
-
-cell-at-requires : tie.Need-cell-at-requires Inv-loop μ-loop
-cell-at-requires c κs = search needs
+    written-none (args .workspace .now) (args .room) (args .from) (args .to - args .from) (args .output .now) (start .pre .room-left)
 
 put-requires : tie.Need-put-requires Inv-loop μ-loop
 put-requires c κs =
     let here = c .before .before .before in
     let start = here .before .before .before in
     let args = start .args in
-    place-within (args .workspace .now) (args .room) (args .from) (args .to - args .from) (args .output .now) (start .pre .1 .1) (here .loop .output) (here .loop .i) (here .loop .inv) (omega arith)
-
-add-i : tie.Need-add-i Inv-loop μ-loop
-add-i c = search needs
-
-loop-less : tie.Need-loop-less Inv-loop μ-loop
-loop-less c = search needs
+    place-within (args .workspace .now) (args .room) (args .from) (args .to - args .from) (args .output .now) (start .pre .room-left) (here .loop .output) (here .loop .i) (here .loop .inv) (omega arith)
 
 loop-again : tie.Need-loop-again Inv-loop μ-loop
 loop-again c =
@@ -50,14 +35,14 @@ loop-again c =
     let here = read .before .before .before in
     let start = here .before .before .before in
     let args = start .args in
-    written-more (args .workspace .now) (args .room) (args .from) (args .to - args .from) (args .output .now) (start .pre .1 .1) (here .loop .output) (here .loop .i) (here .loop .inv) (read .cell-at .result) (put .put .last .0) (omega arith) (read .cell-at .ensures) (put .put .ensures)
+    written-more (args .workspace .now) (args .room) (args .from) (args .to - args .from) (args .output .now) (start .pre .room-left) (here .loop .output) (here .loop .i) (here .loop .inv) (read .cell-at .result) (put .put .last .0) (omega arith) (read .cell-at .ensures) (put .put .ensures)
 
 same-length : tie.Need-same-length Inv-loop μ-loop
 same-length c =
     let here = c .before in
     let start = here .before .before .before in
     let args = start .args in
-    length-written (args .workspace .now) (args .room) (args .from) (args .to - args .from) (args .output .now) (start .pre .1 .1) (here .loop .output) (here .loop .i) (here .loop .inv)
+    length-written (args .workspace .now) (args .room) (args .from) (args .to - args .from) (args .output .now) (start .pre .room-left) (here .loop .output) (here .loop .i) (here .loop .inv)
 
 returns : tie.Need-returns Inv-loop μ-loop
 returns c =
@@ -71,13 +56,13 @@ write-spec =
     (tie.spec
     Inv-loop
     μ-loop
-    sub-size
+    (λ c. search needs)
     loop-holds
-    add-cell-at
-    cell-at-requires
+    (λ c. search needs)
+    (λ c κs. search needs)
     put-requires
-    add-i
-    loop-less
+    (λ c. search needs)
+    (λ c. search needs)
     loop-again
     same-length
     returns)

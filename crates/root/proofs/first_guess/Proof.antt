@@ -12,12 +12,6 @@ rise n h =
     let y : 68945 - n / 281474976710656 * 20730 / 65536 ≤ 68945 = omega arith in
     mul-le-mul x y
 
-mul-slope : tie.Need-mul-slope
-mul-slope c = search needs
-
-sub-slope : tie.Need-sub-slope
-sub-slope c = search needs
-
 mul-result : tie.Need-mul-result
 mul-result c = let h = rise (c .args .n) (omega arith) in omega arith
 
@@ -28,4 +22,4 @@ returns : tie.Need-returns
 returns c = let h = rise (c .args .n) (omega arith) in (omega arith, omega arith)
 
 pub first-guess-spec : {M : Type 1} → statement M
-first-guess-spec = tie.close (tie.spec mul-slope sub-slope mul-result add-result returns)
+first-guess-spec = tie.close (tie.spec (λ c. search needs) (λ c. search needs) mul-result add-result returns)

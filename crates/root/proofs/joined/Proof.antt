@@ -4,15 +4,6 @@ use Rattle.root.proofs.Pattern.{joined-is, joined-number}
 use Rattle.root.proofs.joined.Statement.{statement}
 use Rattle.root.proofs.joined.Tie as tie
 
-sub-result : tie.Need-sub-result
-sub-result c = search needs
-
-mul-result : tie.Need-mul-result
-mul-result c = search needs
-
-add-result : tie.Need-add-result
-add-result c = search needs
-
 float-from-bits-result : tie.Need-float-from-bits-result
 float-from-bits-result c = rw (joined-number (c .args .m) (c .args .s) (c .pre .0) (c .pre .1) (c .pre .2)) tt
 
@@ -20,4 +11,4 @@ returns : tie.Need-returns
 returns c = joined-is (c .args .m) (c .args .s) (c .pre .0) (c .pre .1) (c .pre .2)
 
 pub joined-spec : {M : Type 1} → statement M
-joined-spec = tie.close (tie.spec sub-result mul-result add-result float-from-bits-result returns)
+joined-spec = tie.close (tie.spec (λ c. search needs) (λ c. search needs) (λ c. search needs) float-from-bits-result returns)

@@ -1,4 +1,4 @@
--- `root::square_root` meets its contract: each way out by what its tests say of x. A constant is its bit pattern in MIR, which `ofBits` computes. Assumes nothing.
+-- `root::square_root` meets its contract: each way out by what its tests say of x. A constant is its bit pattern in MIR, which `ofBits` computes.
 use mathlib.Core.Path.{_≡_, sym, ap, _∙_, subst}
 use Prim.Native.Nat.{ℕ, _≤_, _<_}
 use native.Mathlib.Omega.{arith}
@@ -8,7 +8,7 @@ use mathlib.Core.Bool.{true, false}
 use lib.Ieee.{Float, binary64, ofBits, inFloat, eq, ofInt}
 use Rattle.root.specs.declared.Root.the-variants.{Of}
 use Rattle.root.specs.Root.{rootOf, rootWhole}
-use Rattle.float.specs.Laws.{so}
+use Rattle.float.proofs.Laws.{so}
 use Rattle.root.proofs.Whole.{above-minus-one, cast-pos, root-below, none-below, root-above, is-big, too-big, zero-no-nan, is-nought, minus-nought, too-small}
 use Rattle.root.proofs.square_root.Statement.{statement}
 use Rattle.root.proofs.square_root.Tie as tie

@@ -2,14 +2,11 @@
 use mathlib.Core.Path.{sym, ap, _∙_}
 use borrow.Author.Needs.{needs}
 use lib.Ieee.{Float, binary64, ofBits}
-use Rattle.float.specs.Laws.{nan-value}
+use Rattle.float.proofs.Laws.{nan-value}
 use Rattle.root.specs.Root.{rootOf, rootBitsOf, bitsOf}
-use Rattle.root.specs.Number.{of-number}
+use Rattle.root.proofs.Number.{of-number}
 use Rattle.root.proofs.square_root_bits.Statement.{statement}
 use Rattle.root.proofs.square_root_bits.Tie as tie
-
-is-nan-requires : tie.Need-is-nan-requires
-is-nan-requires c κs = search needs
 
 returns : tie.Need-returns
 unfolding rootBitsOf rootOf
@@ -20,19 +17,10 @@ returns c =
 float-from-bits-square-root : tie.Need-float-from-bits-square-root
 float-from-bits-square-root c = rw (sym (c .before .is-nan .ensures) ∙ c .if1 .left) tt
 
-square-root-requires : tie.Need-square-root-requires
-square-root-requires c κs = search needs
-
-enum-known-r : tie.Need-enum-known-r
-enum-known-r c = search needs
-
 float-to-bits-t9 : tie.Need-float-to-bits-t9
 float-to-bits-t9 c =
     of-number (ofBits binary64 (c .before .before .before .before .before .before .args .bits)) (c .before .r .given .0 .0)
     (sym (c .before .before .before .square-root .ensures) ∙ c .before .r .given .1)
-
-enum-known-why : tie.Need-enum-known-why
-enum-known-why c = search needs
 
 returns-2 : tie.Need-returns-2
 unfolding rootBitsOf
@@ -46,12 +34,12 @@ pub square-root-bits-spec : {M : Type 1} → statement M
 square-root-bits-spec =
     tie.close
     (tie.spec
-    is-nan-requires
+    (λ c κs. search needs)
     returns
     float-from-bits-square-root
-    square-root-requires
-    enum-known-r
+    (λ c κs. search needs)
+    (λ c. search needs)
     float-to-bits-t9
-    enum-known-why
+    (λ c. search needs)
     returns-2
     returns-3)

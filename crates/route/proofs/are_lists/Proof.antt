@@ -1,4 +1,4 @@
--- The three tests of the code are those of the definition. Assumes nothing.
+-- The three tests of the code are those of the definition.
 use mathlib.Core.Path.{sym}
 use mathlib.Core.Bool.{_&&_}
 use borrow.Author.Tests.{eq-eqb, ne-eqb}

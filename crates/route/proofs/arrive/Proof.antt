@@ -1,4 +1,4 @@
--- First the goal, then the bits of the cost. Assumes nothing.
+-- First the goal, then the bits of the cost.
 use mathlib.Core.Path.{_≡_, sym, _∙_}
 use mathlib.Core.Bool.{cond}
 use borrow.Author.Needs.{needs}
@@ -8,12 +8,6 @@ use lib.Ieee.{binary64, toBits}
 use Rattle.cell.specs.Cell.{sameCell}
 use Rattle.route.proofs.arrive.Statement.{statement}
 use Rattle.route.proofs.arrive.Tie as tie
-
-same-requires : tie.Need-same-requires
-same-requires c κs = search needs
-
-bits-requires : tie.Need-bits-requires
-bits-requires c κs = search needs
 
 returns : tie.Need-returns
 returns c =
@@ -36,4 +30,4 @@ returns-3 c =
     λ i. cond (there i) (cond (eqb (toBits binary64 (args .paid)) (args .cost)) 0 25) 24
 
 pub arrive-spec : {M : Type 1} → statement M
-arrive-spec = tie.close (tie.spec same-requires bits-requires returns returns-2 returns-3)
+arrive-spec = tie.close (tie.spec (λ c κs. search needs) (λ c κs. search needs) returns returns-2 returns-3)

@@ -1,12 +1,9 @@
--- What is handed back is what was lent, by the number of the choice. Assumes nothing.
+-- What is handed back is what was lent, by the number of the choice.
 use mathlib.Core.Path.{refl, sym, _∙_}
 use native.Mathlib.Omega.{arith}
 use borrow.Author.Needs.{needs}
 use Rattle.route.proofs.choose.Statement.{statement}
 use Rattle.route.proofs.choose.Tie as tie
-
-choice-requires : tie.Need-choice-requires
-choice-requires c κs = search needs
 
 returns : tie.Need-returns
 returns c =
@@ -18,9 +15,6 @@ returns-2 c =
     let is = sym (c .before .before .choice .ensures) ∙ c .if2 .taken in
     record { is-sent = λ e. absurd (omega (arith, is, e)); is-homing = λ e. refl; is-empty = λ e. absurd (omega (arith, is, e)) }
 
-slice-aggregate-result : tie.Need-slice-aggregate-result
-slice-aggregate-result c = search needs
-
 returns-3 : tie.Need-returns-3
 returns-3 c =
     let is = c .before .before .before .choice .ensures in
@@ -28,4 +22,4 @@ returns-3 c =
 
 pub choose-spec : {M : Type 1} → statement M
 choose-spec =
-    tie.close (tie.spec choice-requires returns returns-2 slice-aggregate-result returns-3)
+    tie.close (tie.spec (λ c κs. search needs) returns returns-2 (λ c. search needs) returns-3)

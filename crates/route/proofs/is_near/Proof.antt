@@ -1,30 +1,15 @@
--- Each square is at most 5, so that their sum fits; its two tests are those of the definition. Assumes nothing.
+-- Each square is at most 5, so that their sum fits; its two tests are those of the definition.
 use mathlib.Core.Path.{_≡_, sym, ap, _∙_}
 use mathlib.Core.Bool.{_&&_}
 use Prim.Native.Nat.{ℕ, _+_}
 use borrow.Author.Needs.{needs}
 use borrow.Author.Tests.{le-leb, lt-leb}
 use lib.Dec.{leb}
-use Rattle.lattice.specs.Fields.{read}
-use Rattle.distance.specs.Laws.{difference}
-use Rattle.route.specs.Near.{squareOf, isNear}
+use Rattle.lattice.proofs.Fields.{read}
+use Rattle.distance.specs.Inner.Differences.{difference}
+use Rattle.route.specs.Inner.Near.{squareOf, isNear}
 use Rattle.route.proofs.is_near.Statement.{statement}
 use Rattle.route.proofs.is_near.Tie as tie
-
-short-square-requires : tie.Need-short-square-requires
-short-square-requires c κs = search needs
-
-short-square-requires-2 : tie.Need-short-square-requires-2
-short-square-requires-2 c κs = search needs
-
-add-s : tie.Need-add-s
-add-s c = search needs
-
-short-square-requires-3 : tie.Need-short-square-requires-3
-short-square-requires-3 c κs = search needs
-
-add-s-2 : tie.Need-add-s-2
-add-s-2 c = search needs
 
 -- the sum that the code holds
 abbrev sum : tie.After-short-square3 → ℕ
@@ -52,10 +37,10 @@ pub is-near-spec : {M : Type 1} → statement M
 is-near-spec =
     tie.close
     (tie.spec
-    short-square-requires
-    short-square-requires-2
-    add-s
-    short-square-requires-3
-    add-s-2
+    (λ c κs. search needs)
+    (λ c κs. search needs)
+    (λ c. search needs)
+    (λ c κs. search needs)
+    (λ c. search needs)
     returns
     returns-2)

@@ -1,18 +1,12 @@
--- The rule decides whether the layer is asked; then what the search found. Assumes nothing.
+-- The rule decides whether the layer is asked; then what the search found.
 use mathlib.Core.Path.{_∙_}
 use native.Mathlib.Omega.{arith}
 use borrow.Author.Needs.{needs}
-use Rattle.layer.specs.Layer.{rowsOf}
-use Rattle.layer.specs.Laws.{flags-word, found-within}
+use Rattle.table.specs.Records.{rowsOf}
+use Rattle.table.proofs.Laws.{flags-word, found-within}
 use Rattle.route.proofs.Shut.{found, missing, not-asked}
 use Rattle.route.proofs.is_shut.Statement.{statement}
 use Rattle.route.proofs.is_shut.Tie as tie
-
-find-requires : tie.Need-find-requires
-find-requires c κs = search needs
-
-enum-known-place : tie.Need-enum-known-place
-enum-known-place c = search needs
 
 kept-at-requires : tie.Need-kept-at-requires
 kept-at-requires c κs =
@@ -23,12 +17,6 @@ cast-is-blocked : tie.Need-cast-is-blocked
 cast-is-blocked c =
     let lent = c .before .before .before .before .before .before in
     omega (arith, c .kept-at .ensures, flags-word (lent .before .args .flags .now) (c .before .before .place .given .0 .0) (λ i. omega (arith, lent .shared-slice-known .given i)))
-
-is-blocked-requires : tie.Need-is-blocked-requires
-is-blocked-requires c κs = search needs
-
-enum-known-place-2 : tie.Need-enum-known-place-2
-enum-known-place-2 c = search needs
 
 returns : tie.Need-returns
 returns c =
@@ -50,12 +38,12 @@ pub is-shut-spec : {M : Type 1} → statement M
 is-shut-spec =
     tie.close
     (tie.spec
-    find-requires
-    enum-known-place
+    (λ c κs. search needs)
+    (λ c. search needs)
     kept-at-requires
     cast-is-blocked
-    is-blocked-requires
-    enum-known-place-2
+    (λ c κs. search needs)
+    (λ c. search needs)
     returns
     returns-2
     returns-3)

@@ -1,4 +1,4 @@
--- The three tests of the code are those of `step-tested`. Assumes nothing.
+-- The three tests of the code are those of `step-tested`.
 use mathlib.Core.Path.{_≡_, sym, ap, _∙_}
 use mathlib.Core.Bool.{_&&_}
 use native.Mathlib.Omega.{arith}
@@ -6,24 +6,12 @@ use borrow.Author.Needs.{needs}
 use borrow.Author.Tests.{eq-eqb, ne-eqb}
 use Rattle.lattice.specs.Lattice.{isLatticePoint, neighborPlaces}
 use Rattle.cell.specs.Cell.{coordOf}
-use Rattle.cell.specs.Laws.{Words}
-use Rattle.route.specs.Near.{isNear}
+use Rattle.cell.specs.Terms.{Words}
+use Rattle.route.specs.Inner.Near.{isNear}
 use Rattle.route.specs.Route.{amongPlaces, isStep}
-use Rattle.route.specs.StepLaws.{isKin, step-tested}
+use Rattle.route.proofs.StepLaws.{isKin, step-tested}
 use Rattle.route.proofs.is_step.Statement.{statement}
 use Rattle.route.proofs.is_step.Tie as tie
-
-coord-requires : tie.Need-coord-requires
-coord-requires c κs = search needs
-
-is-valid-lattice-point-requires : tie.Need-is-valid-lattice-point-requires
-is-valid-lattice-point-requires c κs = search needs
-
-coord-requires-2 : tie.Need-coord-requires-2
-coord-requires-2 c κs = search needs
-
-is-near-requires : tie.Need-is-near-requires
-is-near-requires c κs = search needs
 
 returns : tie.Need-returns
 returns c =
@@ -57,10 +45,10 @@ pub is-step-spec : {M : Type 1} → statement M
 is-step-spec =
     tie.close
     (tie.spec
-    coord-requires
-    is-valid-lattice-point-requires
-    coord-requires-2
-    is-near-requires
+    (λ c κs. search needs)
+    (λ c κs. search needs)
+    (λ c κs. search needs)
+    (λ c κs. search needs)
     returns
     returns-2
     returns-3)

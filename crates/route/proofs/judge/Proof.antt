@@ -1,4 +1,4 @@
--- A list of cells that is not empty has a first one; whether it is the start decides. Assumes nothing.
+-- A list of cells that is not empty has a first one; whether it is the start decides.
 use mathlib.Core.Path.{_≡_, sym, ap, _∙_}
 use Prim.Native.Nat.{_%_, _≤_}
 use native.Mathlib.Omega.{arith}
@@ -8,8 +8,8 @@ use lib.ListN.{length}
 use Rattle.refusal.specs.declared.Cell.{Cell}
 use Rattle.cell.specs.Cell.{sameCell}
 use Rattle.cell.specs.Bytes.{cellAt}
-use Rattle.layer.specs.Layer.{rowsOf}
-use Rattle.route.specs.Walks.{judge-empty, judge-start}
+use Rattle.table.specs.Records.{rowsOf}
+use Rattle.route.proofs.Walks.{judge-empty, judge-start}
 use Rattle.route.proofs.judge.Statement.{statement}
 use Rattle.route.proofs.judge.Tie as tie
 
@@ -24,9 +24,6 @@ begins c = let start = c .before .before .before in omega (arith, c .if1 .left, 
 
 read-at-requires : tie.Need-read-at-requires
 read-at-requires c κs = begins c
-
-same-requires : tie.Need-same-requires
-same-requires c κs = search needs
 
 walk-requires : tie.Need-walk-requires
 walk-requires c κs = (begins (c .before .before .before), c .before .before .before .before .before .before .pre .1)
@@ -50,4 +47,4 @@ returns-3 c =
 
 pub judge-spec : {M : Type 1} → statement M
 judge-spec =
-    tie.close (tie.spec returns read-at-requires same-requires walk-requires returns-2 returns-3)
+    tie.close (tie.spec returns read-at-requires (λ c κs. search needs) walk-requires returns-2 returns-3)

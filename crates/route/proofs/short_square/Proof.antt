@@ -1,4 +1,4 @@
--- The difference in 64 bits is the true one; from -2 to 2 its product is the square. Assumes nothing.
+-- The difference in 64 bits is the true one; from -2 to 2 its product is the square.
 use mathlib.Core.Path.{_≡_, sym, ap, subst, _∙_}
 use Prim.Native.Nat.{ℕ, _≤_}
 use native.Mathlib.Omega.{arith}
@@ -8,8 +8,8 @@ use lib.Signed.{nonNeg}
 use mir.Syntax.{w32, w64}
 use mir.Val.{Fits, SFits, toZ, ofZ}
 use mir.Facts.{toZ-ofZ}
-use Rattle.lattice.specs.Fields.{wide-fits, widened, difference-fits}
-use Rattle.route.specs.Near.{shortSquare}
+use Rattle.lattice.proofs.Fields.{wide-fits, widened, difference-fits}
+use Rattle.route.specs.Inner.Near.{shortSquare}
 use Rattle.route.proofs.Squares.{at-most-five, product, below, above}
 use Rattle.route.proofs.short_square.Statement.{statement}
 use Rattle.route.proofs.short_square.Tie as tie

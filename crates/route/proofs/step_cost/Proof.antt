@@ -1,4 +1,4 @@
--- The lowest bits of the two x decide, as their parities do. Assumes nothing.
+-- The lowest bits of the two x decide, as their parities do.
 use mathlib.Core.Path.{_≡_, refl, sym, ap, _∙_}
 use mathlib.Core.Bool.{Bool, cond}
 use Prim.Native.Nat.{_/_, _%_, _<_}

@@ -1,4 +1,4 @@
--- The lists, the layer, the rule, in this order; then the cells. Assumes nothing.
+-- The lists, the layer, the rule, in this order; then the cells.
 use mathlib.Core.Path.{_≡_, refl, sym, _∙_}
 use mathlib.Core.Bool.{true}
 use native.Mathlib.Omega.{arith}
@@ -6,19 +6,13 @@ use borrow.Author.Needs.{needs}
 use borrow.Author.Tests.{not-true, not-false, eqb-true, lt-ltb, le-ltb}
 use lib.Dec.{eqb}
 use lib.ListN.{length}
-use Rattle.lattice.specs.Signs.{three}
+use Rattle.general.proofs.Tests.{three}
 use Rattle.cell.specs.Lists.{isList, cellsOf}
-use Rattle.layer.specs.Layer.{rowsOf, isSound}
+use Rattle.table.specs.Records.{rowsOf, isSound}
 use Rattle.route.specs.Route.{judgeCells, areLists}
-use Rattle.route.specs.Walks.{verdict-tests}
+use Rattle.route.proofs.Walks.{verdict-tests}
 use Rattle.route.proofs.verdict.Statement.{statement}
 use Rattle.route.proofs.verdict.Tie as tie
-
-are-lists-requires : tie.Need-are-lists-requires
-are-lists-requires c κs = search needs
-
-number-requires : tie.Need-number-requires
-number-requires c κs = search needs
 
 returns : tie.Need-returns
 returns c =
@@ -29,21 +23,12 @@ returns c =
 lists : (c : tie.Else1) → areLists (c .before .before .before .before .before .before .args .route .now) (c .before .before .before .before .before .before .args .start .now) (c .before .before .before .before .before .before .args .goal .now) ≡ true
 lists c = sym (c .before .are-lists .ensures) ∙ not-false _ (c .if1 .left)
 
-is-sound-requires : tie.Need-is-sound-requires
-is-sound-requires c κs = search needs
-
-number-requires-2 : tie.Need-number-requires-2
-number-requires-2 c κs = search needs
-
 returns-2 : tie.Need-returns-2
 returns-2 c =
     let listed = c .before .before .before in
     let args = listed .before .before .before .before .before .before .args in
     c .number2 .ensures
     ∙ verdict-tests (args .route .now) (args .start .now) (args .goal .now) (args .cost) (args .flags .now) (args .count) (args .rule) (lists listed) (sym (c .before .before .is-sound .ensures) ∙ not-true _ (c .before .if2 .taken)) refl
-
-number-requires-3 : tie.Need-number-requires-3
-number-requires-3 c κs = search needs
 
 sound : (c : tie.Else2) → isSound 20 (c .before .before .before .before .before .before .before .before .args .flags .now) (c .before .before .before .before .before .before .before .before .args .count) ≡ true
 sound c = sym (c .before .is-sound .ensures) ∙ not-false _ (c .if2 .left)
@@ -90,13 +75,13 @@ pub verdict-spec : {M : Type 1} → statement M
 verdict-spec =
     tie.close
     (tie.spec
-    are-lists-requires
-    number-requires
+    (λ c κs. search needs)
+    (λ c κs. search needs)
     returns
-    is-sound-requires
-    number-requires-2
+    (λ c κs. search needs)
+    (λ c κs. search needs)
     returns-2
-    number-requires-3
+    (λ c κs. search needs)
     returns-3
     read-at-requires
     read-at-requires-2

@@ -1,4 +1,4 @@
--- What is left of the walk, from the last cell on at what was paid, is always the whole walk. Assumes nothing.
+-- What is left of the walk, from the last cell on at what was paid, is always the whole walk.
 use mathlib.Core.Path.{_≡_, refl, sym, ap, _∙_}
 use mathlib.Core.Bool.{Bool, false, cond}
 use Prim.Native.Nat.{_+_, _-_}
@@ -7,9 +7,10 @@ use borrow.Author.Tests.{not-true, not-false}
 use lib.IntN.{pos}
 use lib.Ieee.{Float, fin, binary64, add, ofBits}
 use Rattle.refusal.specs.declared.Cell.{Cell}
-use Rattle.layer.specs.Layer.{rowsOf}
+use Rattle.table.specs.Records.{rowsOf}
 use Rattle.route.specs.Route.{costBetween, isShut, stopped, judgeWalk}
-use Rattle.route.specs.Walks.{walkAt, walkOf, walk-step, walk-end}
+use Rattle.route.specs.Inner.Walks.{walkAt, walkOf}
+use Rattle.route.proofs.Walks.{walk-step, walk-end}
 use Rattle.route.proofs.walk.Statement.{statement}
 use Rattle.route.proofs.walk.Tie as tie
 
@@ -19,23 +20,11 @@ Inv-loop route goal cost flags count rule cells last₀ paid₀ i₀ last paid i
 abbrev μ-loop : tie.MeasureT-loop
 μ-loop route goal cost flags count rule cells last₀ paid₀ i₀ last paid i = cells - i
 
-read-at-requires : tie.Need-read-at-requires Inv-loop μ-loop
-read-at-requires c κs = search needs
-
 loop-holds : tie.Need-loop-holds Inv-loop μ-loop
 unfolding ofBits
 loop-holds c =
     let args = c .before .before .before .args in
     ap (λ (first : Cell). walkAt (args .route .now) (args .rule) (rowsOf 20 (args .flags .now) (args .count)) 1 first (fin false 0 (pos 0))) (c .read-at .ensures)
-
-mul-read-at : tie.Need-mul-read-at Inv-loop μ-loop
-mul-read-at c = search needs
-
-read-at-requires-2 : tie.Need-read-at-requires-2 Inv-loop μ-loop
-read-at-requires-2 c κs = search needs
-
-is-step-requires : tie.Need-is-step-requires Inv-loop μ-loop
-is-step-requires c κs = search needs
 
 -- the step from the last cell to the next one, by how its tests turned out
 stepped : (c : tie.After-is-step Inv-loop μ-loop) {near shut : Bool} {price : Float} → c .is-step .result ≡ near
@@ -56,31 +45,16 @@ returns c =
     let args = c .before .before .before .before .before .before .before .before .args in
     ap (judgeWalk (args .goal) (args .cost)) (stepped (c .before) (not-true _ (c .if1 .taken)) refl refl)
 
-is-shut-requires : tie.Need-is-shut-requires Inv-loop μ-loop
-is-shut-requires c κs = search needs
-
 returns-2 : tie.Need-returns-2 Inv-loop μ-loop
 returns-2 c =
     let step = c .before .before in
     let args = step .before .before .before .before .before .before .before .before .args in
     ap (judgeWalk (args .goal) (args .cost)) (stepped (step .before) (not-false _ (step .if1 .left)) (sym (c .before .is-shut .ensures) ∙ c .if2 .taken) refl)
 
-step-cost-requires : tie.Need-step-cost-requires Inv-loop μ-loop
-step-cost-requires c κs = search needs
-
-add-i : tie.Need-add-i Inv-loop μ-loop
-add-i c = search needs
-
-loop-less : tie.Need-loop-less Inv-loop μ-loop
-loop-less c = search needs
-
 loop-again : tie.Need-loop-again Inv-loop μ-loop
 loop-again c =
     let step = c .before .before .before in
     stepped (step .before) (not-false _ (step .if1 .left)) (sym (c .before .before .is-shut .ensures) ∙ c .before .if2 .left) (c .step-cost .ensures)
-
-arrive-requires : tie.Need-arrive-requires Inv-loop μ-loop
-arrive-requires c κs = search needs
 
 returns-3 : tie.Need-returns-3 Inv-loop μ-loop
 returns-3 c =
@@ -95,17 +69,17 @@ walk-spec =
     (tie.spec
     Inv-loop
     μ-loop
-    read-at-requires
+    (λ c κs. search needs)
     loop-holds
-    mul-read-at
-    read-at-requires-2
-    is-step-requires
+    (λ c. search needs)
+    (λ c κs. search needs)
+    (λ c κs. search needs)
     returns
-    is-shut-requires
+    (λ c κs. search needs)
     returns-2
-    step-cost-requires
-    add-i
-    loop-less
+    (λ c κs. search needs)
+    (λ c. search needs)
+    (λ c. search needs)
     loop-again
-    arrive-requires
+    (λ c κs. search needs)
     returns-3)

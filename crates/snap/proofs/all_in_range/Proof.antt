@@ -6,15 +6,6 @@ use Rattle.snap.specs.Snap.{inRange, allInRange}
 use Rattle.snap.proofs.all_in_range.Statement.{statement}
 use Rattle.snap.proofs.all_in_range.Tie as tie
 
-in-range-requires : tie.Need-in-range-requires
-in-range-requires c κs = search needs
-
-in-range-requires-2 : tie.Need-in-range-requires-2
-in-range-requires-2 c κs = search needs
-
-in-range-requires-3 : tie.Need-in-range-requires-3
-in-range-requires-3 c κs = search needs
-
 returns : tie.Need-returns
 unfolding allInRange
 returns c =
@@ -45,9 +36,9 @@ pub all-in-range-spec : {M : Type 1} → statement M
 all-in-range-spec =
     tie.close
     (tie.spec
-    in-range-requires
-    in-range-requires-2
-    in-range-requires-3
+    (λ c κs. search needs)
+    (λ c κs. search needs)
+    (λ c κs. search needs)
     returns
     returns-2
     returns-3)

@@ -7,7 +7,7 @@ use mir.Syntax.{w32}
 use mir.Val.{SFits, ofZ, toZ}
 use Rattle.float.specs.Round.{wholeAway}
 use Rattle.snap.specs.Snap.{floatTwo, evenNear}
-use Rattle.snap.specs.Ranges.{near, even-halved, even-whole}
+use Rattle.snap.proofs.Ranges.{near, even-halved, even-whole}
 use Rattle.snap.proofs.Fields.{kept, range-fits, even-fits}
 use Rattle.snap.proofs.even_near.Statement.{statement}
 use Rattle.snap.proofs.even_near.Tie as tie

@@ -1,6 +1,6 @@
 -- Coordinate by coordinate: each is in range.
 use Rattle.lattice.specs.Lattice.{at}
-use Rattle.snap.specs.Ranges.{all-within}
+use Rattle.snap.proofs.Ranges.{all-within}
 use Rattle.snap.proofs.Fields.{kept, even-fits}
 use Rattle.snap.proofs.even_point.Statement.{statement}
 use Rattle.snap.proofs.even_point.Tie as tie

@@ -1,9 +1,8 @@
 -- The two tests of the code are the two of the definition.
 use mathlib.Core.Path.{sym, ap}
-use mathlib.Core.Bool.{Bool, _&&_}
+use mathlib.Core.Bool.{Bool, _&&_, false}
 use lib.IntN.{pos}
 use lib.Ieee.{fin, le, ofBits, neg}
-use mathlib.Core.Bool.{false}
 use Rattle.snap.proofs.in_range.Statement.{statement}
 use Rattle.snap.proofs.in_range.Tie as tie
 

@@ -19,18 +19,6 @@ by-squares c known =
     ∙ (λ i. le (squaresOff (even i) p) (squaresOff (odd i) p)) in
     (λ i. cond (test i) (even i) (odd i))
 
-even-point-requires : tie.Need-even-point-requires
-even-point-requires c κs = search needs
-
-odd-point-requires : tie.Need-odd-point-requires
-odd-point-requires c κs = search needs
-
-squares-off-requires : tie.Need-squares-off-requires
-squares-off-requires c κs = search needs
-
-squares-off-requires-2 : tie.Need-squares-off-requires-2
-squares-off-requires-2 c κs = search needs
-
 returns : tie.Need-returns
 returns c = by-squares (c .before) (c .if1 .taken)
 
@@ -41,9 +29,9 @@ pub nearer-spec : {M : Type 1} → statement M
 nearer-spec =
     tie.close
     (tie.spec
-    even-point-requires
-    odd-point-requires
-    squares-off-requires
-    squares-off-requires-2
+    (λ c κs. search needs)
+    (λ c κs. search needs)
+    (λ c κs. search needs)
+    (λ c κs. search needs)
     returns
     returns-2)

@@ -7,7 +7,7 @@ use mir.Syntax.{w32}
 use mir.Val.{SFits, ofZ, toZ}
 use Rattle.float.specs.Round.{wholeAway}
 use Rattle.snap.specs.Snap.{floatOne, floatTwo, oddNear}
-use Rattle.snap.specs.Ranges.{near, odd-halved, odd-whole, odd-twice}
+use Rattle.snap.proofs.Ranges.{near, odd-halved, odd-whole, odd-twice}
 use Rattle.snap.proofs.Fields.{kept, range-fits, odd-fits}
 use Rattle.snap.proofs.odd_near.Statement.{statement}
 use Rattle.snap.proofs.odd_near.Tie as tie

@@ -12,18 +12,6 @@ by-answer : (c : Coord) {a b : PointAnswer} → a ≡ physicalOf c → a ≡ b �
 unfolding physicalBitsOf
 by-answer c answer known = ap bitsBy (sym known ∙ answer)
 
-to-physical-requires : tie.Need-to-physical-requires
-to-physical-requires c κs = search needs
-
-enum-known-r : tie.Need-enum-known-r
-enum-known-r c = search needs
-
-enum-known-p : tie.Need-enum-known-p
-enum-known-p c = search needs
-
-bits-of-requires : tie.Need-bits-of-requires
-bits-of-requires c κs = search needs
-
 returns : tie.Need-returns
 returns c =
     let known = c .before in
@@ -39,4 +27,4 @@ returns-2 c =
 pub physical-bits-spec : {M : Type 1} → statement M
 physical-bits-spec =
     tie.close
-    (tie.spec to-physical-requires enum-known-r enum-known-p bits-of-requires returns returns-2)
+    (tie.spec (λ c κs. search needs) (λ c. search needs) (λ c. search needs) (λ c κs. search needs) returns returns-2)

@@ -14,12 +14,6 @@ by-range c known =
     ap (λ (b : Bool). snapIn b (c .before .scaled .result)) (sym known ∙ c .all-in-range .ensures)
     ∙ ap (λ (s : Point). snapIn (allInRange s) s) (c .before .scaled .ensures)
 
-scaled-requires : tie.Need-scaled-requires
-scaled-requires c κs = search needs
-
-all-in-range-requires : tie.Need-all-in-range-requires
-all-in-range-requires c κs = search needs
-
 nearer-requires : tie.Need-nearer-requires
 nearer-requires c κs = sym (c .before .all-in-range .ensures) ∙ c .if1 .taken
 
@@ -31,4 +25,4 @@ returns-2 c = by-range (c .before) (c .if1 .left)
 
 pub physical-to-lattice-spec : {M : Type 1} → statement M
 physical-to-lattice-spec =
-    tie.close (tie.spec scaled-requires all-in-range-requires nearer-requires returns returns-2)
+    tie.close (tie.spec (λ c κs. search needs) (λ c κs. search needs) nearer-requires returns returns-2)

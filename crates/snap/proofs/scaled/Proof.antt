@@ -6,9 +6,6 @@ use Rattle.snap.specs.Snap.{point, scaled}
 use Rattle.snap.proofs.scaled.Statement.{statement}
 use Rattle.snap.proofs.scaled.Tie as tie
 
-power-of-two-requires : tie.Need-power-of-two-requires
-power-of-two-requires c κs = search needs
-
 returns : tie.Need-returns
 unfolding scaled
 returns c =
@@ -17,4 +14,4 @@ returns c =
     ap (λ (s : Float). point (mul binary64 (p .x) s) (mul binary64 (p .y) s) (mul binary64 (p .z) s)) (at .power-of-two .ensures)
 
 pub scaled-spec : {M : Type 1} → statement M
-scaled-spec = tie.close (tie.spec power-of-two-requires returns)
+scaled-spec = tie.close (tie.spec (λ c κs. search needs) returns)

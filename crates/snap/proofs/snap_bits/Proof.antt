@@ -2,30 +2,21 @@
 use borrow.Author.Needs.{needs}
 use mathlib.Core.Path.{sym, _∙_}
 use lib.Ieee.{binary64, ofBits}
-use Rattle.float.specs.Laws.{nan-value}
+use Rattle.float.proofs.Laws.{nan-value}
 use Rattle.snap.specs.Snap.{point, snapOf}
 use Rattle.snap.proofs.Answers.{nan-x, nan-y, nan-z}
 use Rattle.snap.proofs.snap_bits.Statement.{statement}
 use Rattle.snap.proofs.snap_bits.Tie as tie
-
-is-nan-requires : tie.Need-is-nan-requires
-is-nan-requires c κs = search needs
 
 returns : tie.Need-returns
 returns c =
     let a = c .before .before .args in
     nan-x (ofBits binary64 (a .x)) (ofBits binary64 (a .y)) (ofBits binary64 (a .z)) (a .resolution) (nan-value (a .x) (sym (c .before .is-nan .ensures) ∙ c .if1 .taken))
 
-is-nan-requires-2 : tie.Need-is-nan-requires-2
-is-nan-requires-2 c κs = search needs
-
 returns-2 : tie.Need-returns-2
 returns-2 c =
     let a = c .before .before .before .before .args in
     nan-y (ofBits binary64 (a .x)) (ofBits binary64 (a .y)) (ofBits binary64 (a .z)) (a .resolution) (nan-value (a .y) (sym (c .before .is-nan2 .ensures) ∙ c .if2 .taken))
-
-is-nan-requires-3 : tie.Need-is-nan-requires-3
-is-nan-requires-3 c κs = search needs
 
 returns-3 : tie.Need-returns-3
 returns-3 c =
@@ -42,9 +33,6 @@ value-requires-2 c κs = sym (c .before .before .before .before .is-nan2 .ensure
 value-requires-3 : tie.Need-value-requires-3
 value-requires-3 c κs = sym (c .before .before .before .is-nan3 .ensures) ∙ c .before .before .if3 .left
 
-physical-to-lattice-requires : tie.Need-physical-to-lattice-requires
-physical-to-lattice-requires c κs = search needs
-
 returns-4 : tie.Need-returns-4
 returns-4 c =
     let third = c .before in
@@ -58,14 +46,14 @@ pub snap-bits-spec : {M : Type 1} → statement M
 snap-bits-spec =
     tie.close
     (tie.spec
-    is-nan-requires
+    (λ c κs. search needs)
     returns
-    is-nan-requires-2
+    (λ c κs. search needs)
     returns-2
-    is-nan-requires-3
+    (λ c κs. search needs)
     returns-3
     value-requires
     value-requires-2
     value-requires-3
-    physical-to-lattice-requires
+    (λ c κs. search needs)
     returns-4)

@@ -7,12 +7,9 @@ use Rattle.snap.specs.Snap.{squareOff}
 use Rattle.snap.proofs.square_off.Statement.{statement}
 use Rattle.snap.proofs.square_off.Tie as tie
 
-int-to-float-d : tie.Need-int-to-float-d
-int-to-float-d c = search needs
-
 returns : tie.Need-returns
 unfolding squareOff
 returns c = ap (λ (n : ℤ). squareOff n (c .before .args .v)) (toZ-ofZ (c .before .fits .n))
 
 pub square-off-spec : {M : Type 1} → statement M
-square-off-spec = tie.close (tie.spec int-to-float-d returns)
+square-off-spec = tie.close (tie.spec (λ c. search needs) returns)

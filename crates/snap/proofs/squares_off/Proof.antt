@@ -4,18 +4,9 @@ use mathlib.Core.Path.{ap, _∙_}
 use lib.Ieee.{binary64, add}
 use Rattle.refusal.specs.declared.Coord.{Coord}
 use Rattle.snap.specs.Snap.{squaresOff}
-use Rattle.lattice.specs.Fields.{read}
+use Rattle.lattice.proofs.Fields.{read}
 use Rattle.snap.proofs.squares_off.Statement.{statement}
 use Rattle.snap.proofs.squares_off.Tie as tie
-
-square-off-requires : tie.Need-square-off-requires
-square-off-requires c κs = search needs
-
-square-off-requires-2 : tie.Need-square-off-requires-2
-square-off-requires-2 c κs = search needs
-
-square-off-requires-3 : tie.Need-square-off-requires-3
-square-off-requires-3 c κs = search needs
 
 returns : tie.Need-returns
 unfolding squaresOff
@@ -31,4 +22,4 @@ returns c =
 
 pub squares-off-spec : {M : Type 1} → statement M
 squares-off-spec =
-    tie.close (tie.spec square-off-requires square-off-requires-2 square-off-requires-3 returns)
+    tie.close (tie.spec (λ c κs. search needs) (λ c κs. search needs) (λ c κs. search needs) returns)

@@ -6,33 +6,16 @@ use Rattle.refusal.specs.declared.Coord.{Coord}
 use Rattle.lattice.specs.declared.ParityAnswer.{ParityAnswer}
 use Rattle.lattice.specs.Lattice.{parityOf}
 use Rattle.snap.specs.declared.PointAnswer.the-variants.{Is}
-use Rattle.snap.specs.Snap.{point, physicalBy, physicalOf}
+use Rattle.snap.specs.Snap.{point, physicalOf}
+use Rattle.snap.proofs.Split.{physicalBy}
 use Rattle.lattice.proofs.Answers.{answered}
-use Rattle.lattice.specs.Fields.{read}
+use Rattle.lattice.proofs.Fields.{read}
 use Rattle.snap.proofs.to_physical.Statement.{statement}
 use Rattle.snap.proofs.to_physical.Tie as tie
 
 by-parity : (c : Coord) {a b : ParityAnswer} → a ≡ parityOf c → a ≡ b → physicalBy b c ≡ physicalOf c
 unfolding physicalOf
 by-parity c parity known = ap (λ (p : ParityAnswer). physicalBy p c) (sym known ∙ parity)
-
-parity-of-requires : tie.Need-parity-of-requires
-parity-of-requires c κs = search needs
-
-enum-known-r : tie.Need-enum-known-r
-enum-known-r c = search needs
-
-enum-told : tie.Need-enum-told
-enum-told c = search needs
-
-int-to-float-t5 : tie.Need-int-to-float-t5
-int-to-float-t5 c = search needs
-
-int-to-float-t6 : tie.Need-int-to-float-t6
-int-to-float-t6 c = search needs
-
-int-to-float-t7 : tie.Need-int-to-float-t7
-int-to-float-t7 c = search needs
 
 returns : tie.Need-returns
 returns c =
@@ -52,11 +35,11 @@ pub to-physical-spec : {M : Type 1} → statement M
 to-physical-spec =
     tie.close
     (tie.spec
-    parity-of-requires
-    enum-known-r
-    enum-told
-    int-to-float-t5
-    int-to-float-t6
-    int-to-float-t7
+    (λ c κs. search needs)
+    (λ c. search needs)
+    (λ c. search needs)
+    (λ c. search needs)
+    (λ c. search needs)
+    (λ c. search needs)
     returns
     returns-2)

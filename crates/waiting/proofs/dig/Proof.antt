@@ -5,8 +5,9 @@ use Prim.Native.Nat.{ℕ, _-_, _≤_, _<_}
 use borrow.Author.Needs.{needs}
 use native.Mathlib.Omega.{arith}
 use lib.ListN.{length}
-use Rattle.waiting.specs.Entries.{entryAt, entryStored}
-use Rattle.waiting.specs.Sift.{dugIn, dug-end, dug-next}
+use Rattle.waiting.specs.Inner.Entries.{entryAt, entryStored}
+use Rattle.waiting.specs.Inner.Sift.{dugIn}
+use Rattle.waiting.proofs.Sift.{dug-end, dug-next}
 use Rattle.waiting.proofs.Least.{least-child}
 use Rattle.waiting.proofs.dig.Statement.{statement}
 use Rattle.waiting.proofs.dig.Tie as tie
@@ -19,15 +20,6 @@ abbrev μ-loop : tie.MeasureT-loop
 
 loop-holds : tie.Need-loop-holds Inv-loop μ-loop
 loop-holds c = (refl, c .before .pre .0, (c .before .args .size, omega arith, refl))
-
-mul-loop : tie.Need-mul-loop Inv-loop μ-loop
-mul-loop c = search needs
-
-add-loop : tie.Need-add-loop Inv-loop μ-loop
-add-loop c = search needs
-
-least-child-requires : tie.Need-least-child-requires Inv-loop μ-loop
-least-child-requires c κs = search needs
 
 copy-requires : tie.Need-copy-requires Inv-loop μ-loop
 copy-requires c κs =
@@ -63,9 +55,6 @@ loop-again c =
       ),
     )
 
-same-length : tie.Need-same-length Inv-loop μ-loop
-same-length c = search needs
-
 returns : tie.Need-returns Inv-loop μ-loop
 returns c =
     let args = c .before .before .before .args in
@@ -80,11 +69,11 @@ dig-spec =
     Inv-loop
     μ-loop
     loop-holds
-    mul-loop
-    add-loop
-    least-child-requires
+    (λ c. search needs)
+    (λ c. search needs)
+    (λ c κs. search needs)
     copy-requires
     loop-less
     loop-again
-    same-length
+    (λ c. search needs)
     returns)

@@ -5,8 +5,8 @@ use Prim.Native.Nat.{ℕ, suc, _+_, _-_, _*_, _≤_, _<_}
 use lib.Dec.{ltb}
 use borrow.Author.Needs.{needs}
 use native.Mathlib.Omega.{arith}
-use Rattle.waiting.specs.Entries.{keyIn}
-use Rattle.waiting.specs.Sift.{firstLeast}
+use Rattle.waiting.specs.Inner.Entries.{keyIn}
+use Rattle.waiting.specs.Inner.Sift.{firstLeast}
 use Rattle.waiting.proofs.Least.{one-alone, least-to, next-is-less, next-is-more, four-children, few-children}
 use Rattle.waiting.proofs.least_child.Statement.{statement}
 use Rattle.waiting.proofs.least_child.Tie as tie
@@ -17,25 +17,10 @@ Inv-loop heap size i first least₀ j₀ least j = (least ≡ firstLeast (keyIn 
 abbrev μ-loop : tie.MeasureT-loop
 μ-loop heap size i first least₀ j₀ least j = size - j
 
-mul-first : tie.Need-mul-first Inv-loop μ-loop
-mul-first c = search needs
-
-add-first : tie.Need-add-first Inv-loop μ-loop
-add-first c = search needs
-
-add-if1 : tie.Need-add-if1 Inv-loop μ-loop
-add-if1 c = search needs
-
-least-of-four-requires : tie.Need-least-of-four-requires Inv-loop μ-loop
-least-of-four-requires c κs = search needs
-
 returns : tie.Need-returns Inv-loop μ-loop
 returns c =
     let args = c .before .before .before .args in
     c .least-of-four .ensures ∙ sym (four-children (args .heap .now) (args .size) (args .i) (omega arith))
-
-add-j : tie.Need-add-j Inv-loop μ-loop
-add-j c = search needs
 
 loop-holds : tie.Need-loop-holds Inv-loop μ-loop
 loop-holds c =
@@ -49,12 +34,6 @@ less-at-requires c κs =
     let here = c .before .loop in
     let last = least-to (keyIn (args .heap .now)) (4 * args .i + 1) (here .j - (4 * args .i + 1 + 1)) in
     (omega arith, omega (arith, here .inv .0, here .inv .1))
-
-add-j-2 : tie.Need-add-j-2 Inv-loop μ-loop
-add-j-2 c = search needs
-
-loop-less : tie.Need-loop-less Inv-loop μ-loop
-loop-less c = search needs
 
 loop-again : tie.Need-loop-again Inv-loop μ-loop
 loop-again c =
@@ -85,15 +64,15 @@ least-child-spec =
     (tie.spec
     Inv-loop
     μ-loop
-    mul-first
-    add-first
-    add-if1
-    least-of-four-requires
+    (λ c. search needs)
+    (λ c. search needs)
+    (λ c. search needs)
+    (λ c κs. search needs)
     returns
-    add-j
+    (λ c. search needs)
     loop-holds
     less-at-requires
-    add-j-2
-    loop-less
+    (λ c. search needs)
+    (λ c. search needs)
     loop-again
     returns-2)

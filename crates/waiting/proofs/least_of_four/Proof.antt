@@ -2,19 +2,10 @@
 use Prim.Native.Nat.{_+_}
 use borrow.Author.Needs.{needs}
 use native.Mathlib.Omega.{arith}
-use Rattle.waiting.specs.Entries.{keyIn}
+use Rattle.waiting.specs.Inner.Entries.{keyIn}
 use Rattle.waiting.proofs.Least.{first-least, least-of-four, least-to}
 use Rattle.waiting.proofs.least_of_four.Statement.{statement}
 use Rattle.waiting.proofs.least_of_four.Tie as tie
-
-lesser-requires : tie.Need-lesser-requires
-lesser-requires c κs = search needs
-
-add-lesser : tie.Need-add-lesser
-add-lesser c = search needs
-
-lesser-requires-2 : tie.Need-lesser-requires-2
-lesser-requires-2 c κs = search needs
 
 sub-result : tie.Need-sub-result
 sub-result c =
@@ -33,9 +24,6 @@ less-at-requires c κs =
     let b = c .before .lesser .ensures in
     let d = c .lesser2 .ensures in
     (omega arith, omega arith)
-
-cast-result : tie.Need-cast-result
-cast-result c = search needs
 
 mul-result : tie.Need-mul-result
 mul-result c =
@@ -58,12 +46,12 @@ pub least-of-four-spec : {M : Type 1} → statement M
 least-of-four-spec =
     tie.close
     (tie.spec
-    lesser-requires
-    add-lesser
-    lesser-requires-2
+    (λ c κs. search needs)
+    (λ c. search needs)
+    (λ c κs. search needs)
     sub-result
     less-at-requires
-    cast-result
+    (λ c. search needs)
     mul-result
     add-result
     returns)

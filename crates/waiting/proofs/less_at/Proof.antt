@@ -4,28 +4,10 @@ use borrow.Author.Needs.{needs}
 use native.Mathlib.Omega.{arith}
 use lib.Dec.{ltb}
 use Rattle.waiting.specs.declared.Entry.{Entry}
-use Rattle.waiting.specs.Entries.{keyOf, keyIn}
+use Rattle.waiting.specs.Inner.Entries.{entryKey, keyIn}
 use Rattle.waiting.proofs.Decides.{f-decides-at}
 use Rattle.waiting.proofs.less_at.Statement.{statement}
 use Rattle.waiting.proofs.less_at.Tie as tie
-
-mul-read64-little : tie.Need-mul-read64-little
-mul-read64-little c = search needs
-
-read64-little-requires : tie.Need-read64-little-requires
-read64-little-requires c κs = search needs
-
-mul-read64-little-2 : tie.Need-mul-read64-little-2
-mul-read64-little-2 c = search needs
-
-read64-little-requires-2 : tie.Need-read64-little-requires-2
-read64-little-requires-2 c κs = search needs
-
-entry-at-requires : tie.Need-entry-at-requires
-entry-at-requires c κs = search needs
-
-entry-at-requires-2 : tie.Need-entry-at-requires-2
-entry-at-requires-2 c κs = search needs
 
 less-tied-requires : tie.Need-less-tied-requires
 less-tied-requires c κs =
@@ -37,7 +19,7 @@ less-tied-requires c κs =
 
 returns : tie.Need-returns
 unfolding keyIn
-returns c = c .less-tied .ensures ∙ ap₂ (λ (a b : Entry). ltb (keyOf a) (keyOf b)) (c .before .before .entry-at .ensures) (c .before .entry-at2 .ensures)
+returns c = c .less-tied .ensures ∙ ap₂ (λ (a b : Entry). ltb (entryKey a) (entryKey b)) (c .before .before .entry-at .ensures) (c .before .entry-at2 .ensures)
 
 returns-2 : tie.Need-returns-2
 returns-2 c =
@@ -51,12 +33,12 @@ pub less-at-spec : {M : Type 1} → statement M
 less-at-spec =
     tie.close
     (tie.spec
-    mul-read64-little
-    read64-little-requires
-    mul-read64-little-2
-    read64-little-requires-2
-    entry-at-requires
-    entry-at-requires-2
+    (λ c. search needs)
+    (λ c κs. search needs)
+    (λ c. search needs)
+    (λ c κs. search needs)
+    (λ c κs. search needs)
+    (λ c κs. search needs)
     less-tied-requires
     returns
     returns-2)

@@ -1,19 +1,10 @@
 -- The test is 0 or 1.
 use borrow.Author.Needs.{needs}
 use native.Mathlib.Omega.{arith}
-use Rattle.waiting.specs.Entries.{keyIn}
+use Rattle.waiting.specs.Inner.Entries.{keyIn}
 use Rattle.waiting.proofs.Least.{lesser-of-two, least-to}
 use Rattle.waiting.proofs.lesser.Statement.{statement}
 use Rattle.waiting.proofs.lesser.Tie as tie
-
-add-less-at : tie.Need-add-less-at
-add-less-at c = search needs
-
-less-at-requires : tie.Need-less-at-requires
-less-at-requires c κs = search needs
-
-cast-result : tie.Need-cast-result
-cast-result c = search needs
 
 add-result : tie.Need-add-result
 add-result c =
@@ -26,4 +17,4 @@ returns : tie.Need-returns
 returns c = lesser-of-two (keyIn (c .before .before .args .heap .now)) (c .before .before .args .a) (c .less-at .result) (c .less-at .ensures)
 
 pub lesser-spec : {M : Type 1} → statement M
-lesser-spec = tie.close (tie.spec add-less-at less-at-requires cast-result add-result returns)
+lesser-spec = tie.close (tie.spec (λ c. search needs) (λ c κs. search needs) (λ c. search needs) add-result returns)

@@ -8,22 +8,10 @@ use borrow.Author.Tests.{lt-ltb, le-ltb}
 use native.Mathlib.Omega.{arith}
 use lib.Dec.{ltb}
 use Rattle.waiting.specs.declared.Entry.{Entry}
-use Rattle.waiting.specs.Sift.{risenIn, dugIn, popIn}
+use Rattle.waiting.specs.Inner.Sift.{risenIn, dugIn, popIn}
 use Rattle.waiting.proofs.Sifted.{dug-within}
 use Rattle.waiting.proofs.pop.Statement.{statement}
 use Rattle.waiting.proofs.pop.Tie as tie
-
-entry-at-requires : tie.Need-entry-at-requires
-entry-at-requires c κs = search needs
-
-sub-rest : tie.Need-sub-rest
-sub-rest c = search needs
-
-entry-at-requires-2 : tie.Need-entry-at-requires-2
-entry-at-requires-2 c κs = search needs
-
-dig-requires : tie.Need-dig-requires
-dig-requires c κs = search needs
 
 rise-requires : tie.Need-rise-requires
 rise-requires c κs =
@@ -32,9 +20,6 @@ rise-requires c κs =
     let within = dug-within (start .args .size - 1) (start .args .heap .now) (start .args .size - 1) 0 (omega arith) in
     let place = ap (λ (x : List ℕ × ℕ). x .1) (dug .ensures) in
     (omega arith, omega (arith, dug .kept .0))
-
-same-length : tie.Need-same-length
-same-length c = search needs
 
 returns : tie.Need-returns
 unfolding popIn
@@ -54,9 +39,6 @@ returns c =
           ∙ sym (rw more refl),
     )
 
-same-length-2 : tie.Need-same-length-2
-same-length-2 c = search needs
-
 returns-2 : tie.Need-returns-2
 unfolding popIn
 returns-2 c =
@@ -68,12 +50,12 @@ pub pop-spec : {M : Type 1} → statement M
 pop-spec =
     tie.close
     (tie.spec
-    entry-at-requires
-    sub-rest
-    entry-at-requires-2
-    dig-requires
+    (λ c κs. search needs)
+    (λ c. search needs)
+    (λ c κs. search needs)
+    (λ c κs. search needs)
     rise-requires
-    same-length
+    (λ c. search needs)
     returns
-    same-length-2
+    (λ c. search needs)
     returns-2)

@@ -7,29 +7,14 @@ use borrow.Author.Needs.{needs}
 use Rattle.words.proofs.put4.Statement.{statement}
 use Rattle.words.proofs.put4.Tie as tie
 
-slice-write-s : tie.Need-slice-write-s
-slice-write-s c = search needs
-
-add-s : tie.Need-add-s
-add-s c = search needs
-
 slice-write-s-2 : tie.Need-slice-write-s-2
 slice-write-s-2 c = simp length-set (omega arith)
-
-add-s-2 : tie.Need-add-s-2
-add-s-2 c = search needs
 
 slice-write-s-3 : tie.Need-slice-write-s-3
 slice-write-s-3 c = simp length-set (omega arith)
 
-add-s-3 : tie.Need-add-s-3
-add-s-3 c = search needs
-
 slice-write-s-4 : tie.Need-slice-write-s-4
 slice-write-s-4 c = simp length-set (omega arith)
-
-same-length : tie.Need-same-length
-same-length c = search needs
 
 returns : tie.Need-returns
 returns c = sym (sets-four (c .args .s .now) (c .args .at) (c .args .a) (c .args .b) (c .args .c) (c .args .d))
@@ -38,12 +23,12 @@ pub put4-spec : {M : Type 1} → statement M
 put4-spec =
     tie.close
     (tie.spec
-    slice-write-s
-    add-s
+    (λ c. search needs)
+    (λ c. search needs)
     slice-write-s-2
-    add-s-2
+    (λ c. search needs)
     slice-write-s-3
-    add-s-3
+    (λ c. search needs)
     slice-write-s-4
-    same-length
+    (λ c. search needs)
     returns)

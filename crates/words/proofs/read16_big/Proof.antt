@@ -6,18 +6,6 @@ use borrow.Author.Needs.{needs}
 use Rattle.words.proofs.read16_big.Statement.{statement}
 use Rattle.words.proofs.read16_big.Tie as tie
 
-add-joined : tie.Need-add-joined
-add-joined c = search needs
-
-shared-slice-read-joined : tie.Need-shared-slice-read-joined
-shared-slice-read-joined c = search needs
-
-shared-slice-read-joined-2 : tie.Need-shared-slice-read-joined-2
-shared-slice-read-joined-2 c = search needs
-
-joined-requires : tie.Need-joined-requires
-joined-requires c κs = search needs
-
 returns : tie.Need-returns
 returns c =
     let start = c .before .before .before .before in
@@ -30,8 +18,8 @@ pub read16-big-spec : {M : Type 1} → statement M
 read16-big-spec =
     tie.close
     (tie.spec
-    add-joined
-    shared-slice-read-joined
-    shared-slice-read-joined-2
-    joined-requires
+    (λ c. search needs)
+    (λ c. search needs)
+    (λ c. search needs)
+    (λ c κs. search needs)
     returns)

@@ -7,27 +7,12 @@ use borrow.Author.Needs.{needs}
 use Rattle.words.proofs.write16_big.Statement.{statement}
 use Rattle.words.proofs.write16_big.Tie as tie
 
-cast-a : tie.Need-cast-a
-cast-a c = search needs
-
-cast-b : tie.Need-cast-b
-cast-b c = search needs
-
-slice-write-s : tie.Need-slice-write-s
-slice-write-s c = search needs
-
-add-s : tie.Need-add-s
-add-s c = search needs
-
 slice-write-s-2 : tie.Need-slice-write-s-2
 slice-write-s-2 c = simp length-set (omega arith)
-
-same-length : tie.Need-same-length
-same-length c = search needs
 
 returns : tie.Need-returns
 returns c = sym (stored-two (c .args .s .now) (c .args .at) (c .args .value))
 
 pub write16-big-spec : {M : Type 1} → statement M
 write16-big-spec =
-    tie.close (tie.spec cast-a cast-b slice-write-s add-s slice-write-s-2 same-length returns)
+    tie.close (tie.spec (λ c. search needs) (λ c. search needs) (λ c. search needs) (λ c. search needs) slice-write-s-2 (λ c. search needs) returns)

@@ -2,26 +2,11 @@
 use mathlib.Core.Path.{sym, _∙_}
 use native.Mathlib.Omega.{arith}
 use borrow.Author.Needs.{needs}
-use Rattle.rows.specs.Rows.{gIn}
-use Rattle.astar.specs.Bytes.{wayBack}
-use Rattle.astar.specs.WayLaws.{route-broken, route-refused, route-found}
+use Rattle.search_rows.specs.Inner.Rows.{gIn}
+use Rattle.astar.specs.Inner.Bytes.{wayBack}
+use Rattle.astar.proofs.WayLaws.{route-broken, route-refused, route-found}
 use Rattle.astar.proofs.way.answer.Statement.{statement}
 use Rattle.astar.proofs.way.answer.Tie as tie
-
-cells-to-requires : tie.Need-cells-to-requires
-cells-to-requires c κs = search needs
-
-enum-told : tie.Need-enum-told
-enum-told c = search needs
-
-enum-known-cells : tie.Need-enum-known-cells
-enum-known-cells c = search needs
-
-room-requires : tie.Need-room-requires
-room-requires c κs = search needs
-
-same-length : tie.Need-same-length
-same-length c = search needs
 
 returns : tie.Need-returns
 returns c =
@@ -32,9 +17,6 @@ returns c =
     let w = args .workspace .now in
     route-refused (gIn w (args .plan .known) (args .i)) (args .sizes .count) (args .output .now) (wayBack (args .plan) w (args .sizes) (args .i)) _ (sym (at-cells .cells .given .1) ∙ at-cells-to .cells-to .ensures) (omega (arith, c .if1 .taken, at-room .room .ensures))
 
-g-at-requires : tie.Need-g-at-requires
-g-at-requires c κs = search needs
-
 write-requires : tie.Need-write-requires
 write-requires c κs =
     let at-if1 = c .before .before in
@@ -42,7 +24,7 @@ write-requires c κs =
     let at-cells = at-room .before .before .before in
     let at-cells-to = at-cells .before .before in
     let entry = at-cells-to .before .before .before in
-    (entry .pre .0, (entry .pre .1, (sym (at-cells-to .cells-to .ensures) ∙ at-cells .cells .given .1, omega (arith, at-if1 .if1 .left, at-room .room .ensures))))
+    record { sized = entry .pre .0; below = entry .pre .1; long = sym (at-cells-to .cells-to .ensures) ∙ at-cells .cells .given .1; room = omega (arith, at-if1 .if1 .left, at-room .room .ensures) }
 
 returns-2 : tie.Need-returns-2
 returns-2 c =
@@ -50,9 +32,6 @@ returns-2 c =
     let args = at-cells-to .before .before .before .args in
     let w = args .workspace .now in
     route-broken (gIn w (args .plan .known) (args .i)) (args .sizes .count) (args .output .now) (wayBack (args .plan) w (args .sizes) (args .i)) (sym (c .enum-told .given .1) ∙ at-cells-to .cells-to .ensures)
-
-same-length-2 : tie.Need-same-length-2
-same-length-2 c = search needs
 
 returns-3 : tie.Need-returns-3
 returns-3 c =
@@ -70,14 +49,14 @@ pub answer-spec : {M : Type 1} → statement M
 answer-spec =
     tie.close
     (tie.spec
-    cells-to-requires
-    enum-told
-    enum-known-cells
-    room-requires
-    same-length
+    (λ c κs. search needs)
+    (λ c. search needs)
+    (λ c. search needs)
+    (λ c κs. search needs)
+    (λ c. search needs)
     returns
-    g-at-requires
+    (λ c κs. search needs)
     write-requires
     returns-2
-    same-length-2
+    (λ c. search needs)
     returns-3)

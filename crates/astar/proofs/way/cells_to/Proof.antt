@@ -2,7 +2,7 @@
 use mathlib.Core.Path.{sym, _∙_}
 use native.Mathlib.Omega.{arith}
 use borrow.Author.Needs.{needs}
-use Rattle.astar.specs.WayLaws.{Counting, counting-start, counting-out, counting-ends, counting-broken, counting-next}
+use Rattle.astar.proofs.WayLaws.{Counting, counting-start, counting-out, counting-ends, counting-broken, counting-next}
 use Rattle.astar.proofs.way.cells_to.Statement.{statement}
 use Rattle.astar.proofs.way.cells_to.Tie as tie
 
@@ -21,21 +21,12 @@ cell-at-requires c κs =
     let sized = at-loop .before .before .pre .0 in
     (sized .roomy, omega (arith, at-loop .loop .inv .below, sized .known))
 
-same-requires : tie.Need-same-requires Inv-loop μ-loop
-same-requires c κs = search needs
-
 returns : tie.Need-returns Inv-loop μ-loop
 returns c =
     let at-same = c .before in
     let at-cell-at = at-same .before in
     let at-loop = at-cell-at .before .before in
     counting-ends (at-loop .loop .inv) _ (at-cell-at .cell-at .ensures) (sym (at-same .same .ensures) ∙ c .if1 .taken)
-
-before-at-requires : tie.Need-before-at-requires Inv-loop μ-loop
-before-at-requires c κs =
-    let at-loop = c .before .before .before .before in
-    let sized = at-loop .before .before .pre .0 in
-    (sized .roomy, (sized .known, at-loop .loop .inv .below))
 
 returns-2 : tie.Need-returns-2 Inv-loop μ-loop
 returns-2 c =
@@ -51,7 +42,12 @@ sub-left c = omega arith
 
 add-cells : tie.Need-add-cells Inv-loop μ-loop
 add-cells c =
-    let at-loop = c .before .before .before .before .before .before .before in
+    let at-before-at = c .before .before in
+    let at-if1 = at-before-at .before in
+    let at-same = at-if1 .before in
+    let at-cell-at = at-same .before in
+    let at-loop-test = at-cell-at .before in
+    let at-loop = at-loop-test .before in
     let sized = at-loop .before .before .pre .0 in
     omega (arith, at-loop .loop .inv .together, sized .counted, sized .known, sized .roomy .small)
 
@@ -78,9 +74,9 @@ cells-to-spec =
     μ-loop
     loop-holds
     cell-at-requires
-    same-requires
+    (λ c κs. search needs)
     returns
-    before-at-requires
+    (λ c κs. search needs)
     returns-2
     sub-left
     add-cells

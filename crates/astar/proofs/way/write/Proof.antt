@@ -1,7 +1,8 @@
 -- The invariant: the cells that were passed are written behind the place of the next. The way is whole, so that the record before is a known one.
 use mathlib.Core.Path.{_∙_}
 use native.Mathlib.Omega.{arith}
-use Rattle.astar.specs.WayLaws.{Writing, way-some, writing-start, writing-length, writing-within, writing-next, writing-last}
+use borrow.Author.Needs.{needs}
+use Rattle.astar.proofs.WayLaws.{Writing, way-some, writing-start, writing-length, writing-within, writing-next, writing-last}
 use Rattle.astar.proofs.way.write.Statement.{statement}
 use Rattle.astar.proofs.way.write.Tie as tie
 
@@ -15,28 +16,22 @@ sub-place : tie.Need-sub-place Inv-loop μ-loop
 sub-place c =
     let entry = c .before .before in
     let args = entry .args in
-    omega (arith, way-some (args .plan) (args .workspace .now) (args .sizes) (args .i) (args .cells) (entry .pre .1 .1 .0))
+    omega (arith, way-some (args .plan) (args .workspace .now) (args .sizes) (args .i) (args .cells) (entry .pre .long))
 
 loop-holds : tie.Need-loop-holds Inv-loop μ-loop
 loop-holds c =
     let entry = c .before .before in
     let args = entry .args in
-    writing-start (args .plan) (args .workspace .now) (args .sizes) (args .i) (args .cells) (entry .pre .1 .1 .0) (args .output .now) (entry .pre .1 .0) (entry .pre .1 .1 .1)
+    writing-start (args .plan) (args .workspace .now) (args .sizes) (args .i) (args .cells) (entry .pre .long) (args .output .now) (entry .pre .below) (entry .pre .room)
 
 cell-at-requires : tie.Need-cell-at-requires Inv-loop μ-loop
 cell-at-requires c κs =
     let at-loop = c .before .before in
-    let sized = at-loop .before .before .before .pre .0 in
+    let sized = at-loop .before .before .before .pre .sized in
     (sized .roomy, omega (arith, at-loop .loop .inv .below, sized .known))
 
 put-requires : tie.Need-put-requires Inv-loop μ-loop
 put-requires c κs = writing-within (c .before .before .before .loop .inv)
-
-before-at-requires : tie.Need-before-at-requires Inv-loop μ-loop
-before-at-requires c κs =
-    let at-loop = c .before .before .before .before .before .before in
-    let sized = at-loop .before .before .before .pre .0 in
-    (sized .roomy, (sized .known, at-loop .loop .inv .below))
 
 sub-place-2 : tie.Need-sub-place-2 Inv-loop μ-loop
 sub-place-2 c = omega arith
@@ -55,7 +50,7 @@ loop-again c =
 cell-at-requires-2 : tie.Need-cell-at-requires-2 Inv-loop μ-loop
 cell-at-requires-2 c κs =
     let at-loop = c .before .before in
-    let sized = at-loop .before .before .before .pre .0 in
+    let sized = at-loop .before .before .before .pre .sized in
     (sized .roomy, omega (arith, at-loop .loop .inv .below, sized .known))
 
 put-requires-2 : tie.Need-put-requires-2 Inv-loop μ-loop
@@ -85,7 +80,7 @@ write-spec =
     loop-holds
     cell-at-requires
     put-requires
-    before-at-requires
+    (λ c κs. search needs)
     sub-place-2
     loop-less
     loop-again

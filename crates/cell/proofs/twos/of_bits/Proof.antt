@@ -8,20 +8,11 @@ use Rattle.cell.proofs.Complement.{high}
 use Rattle.cell.proofs.twos.of_bits.Statement.{statement}
 use Rattle.cell.proofs.twos.of_bits.Tie as tie
 
-cast-result : tie.Need-cast-result
-cast-result c = search needs
-
-cast-result-2 : tie.Need-cast-result-2
-cast-result-2 c = search needs
-
 add-result : tie.Need-add-result
 add-result c = subst (SFits w32) (sym (high (c .before .args .n) (c .if1 .left) (c .before .fits .n .fits))) (sfits-toZ (c .before .fits .n))
-
-returns : tie.Need-returns
-returns c = search needs
 
 returns-2 : tie.Need-returns-2
 returns-2 c = toZ-ofZ (add-result c) ∙ high (c .before .args .n) (c .if1 .left) (c .before .fits .n .fits)
 
 pub of-bits-spec : {M : Type 1} → statement M
-of-bits-spec = tie.close (tie.spec cast-result cast-result-2 add-result returns returns-2)
+of-bits-spec = tie.close (tie.spec (λ c. search needs) (λ c. search needs) add-result (λ c. search needs) returns-2)

@@ -1,9 +1,9 @@
--- Each number by its place in the list; another is past its end. Assumes nothing.
+-- Each number by its place in the list; another is past its end.
 use mathlib.Core.Path.{sym, ap}
 use native.Mathlib.Omega.{arith}
 use lib.ListN.{List·getD-eq-default}
-use Rattle.tishkolan.specs.declared.aggregates.Asked.the-variants.{Unknown}
-use Rattle.tishkolan.specs.Aggregates.{aggregations, aggregationOf}
+use Rattle.face.specs.declared.Asked.the-variants.{Unknown}
+use Rattle.face.specs.Aggregates.{aggregations, aggregationOf}
 use Rattle.tishkolan.proofs.aggregates.aggregation_of.Statement.{statement}
 use Rattle.tishkolan.proofs.aggregates.aggregation_of.Tie as tie
 

@@ -1,25 +1,13 @@
--- First the list, then the layer. Assumes nothing.
+-- First the list, then the layer.
 use borrow.Author.Needs.{needs}
 use borrow.Author.Tests.{eq-eqb, ne-eqb}
-use Rattle.tishkolan.specs.Aggregates.{noAggregation}
+use Rattle.face.specs.Aggregates.{noAggregation}
 use Rattle.tishkolan.proofs.aggregates.no_aggregation.Statement.{statement}
 use Rattle.tishkolan.proofs.aggregates.no_aggregation.Tie as tie
-
-no-bits-requires : tie.Need-no-bits-requires
-no-bits-requires c κs = search needs
 
 returns : tie.Need-returns
 unfolding noAggregation
 returns c = simp (ne-eqb _ _ (c .before .if1 .taken)) (c .no-bits .ensures)
-
-is-sound-requires : tie.Need-is-sound-requires
-is-sound-requires c κs = search needs
-
-no-bits-requires-2 : tie.Need-no-bits-requires-2
-no-bits-requires-2 c κs = search needs
-
-no-bits-requires-3 : tie.Need-no-bits-requires-3
-no-bits-requires-3 c κs = search needs
 
 returns-2 : tie.Need-returns-2
 unfolding noAggregation
@@ -33,10 +21,10 @@ pub no-aggregation-spec : {M : Type 1} → statement M
 no-aggregation-spec =
     tie.close
     (tie.spec
-    no-bits-requires
+    (λ c κs. search needs)
     returns
-    is-sound-requires
-    no-bits-requires-2
-    no-bits-requires-3
+    (λ c κs. search needs)
+    (λ c κs. search needs)
+    (λ c κs. search needs)
     returns-2
     returns-3)

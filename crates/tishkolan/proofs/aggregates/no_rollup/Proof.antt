@@ -1,12 +1,9 @@
--- The layer is tested first. Assumes nothing.
+-- The layer is tested first.
 use borrow.Author.Needs.{needs}
 use mathlib.Core.Path.{sym, _∙_}
-use Rattle.tishkolan.specs.Aggregates.{noRollup}
+use Rattle.face.specs.Aggregates.{noRollup}
 use Rattle.tishkolan.proofs.aggregates.no_rollup.Statement.{statement}
 use Rattle.tishkolan.proofs.aggregates.no_rollup.Tie as tie
-
-is-sound-requires : tie.Need-is-sound-requires
-is-sound-requires c κs = search needs
 
 returns : tie.Need-returns
 unfolding noRollup
@@ -17,4 +14,4 @@ unfolding noRollup
 returns-2 c = rw (sym (c .before .is-sound .ensures) ∙ c .if1 .left)
 
 pub no-rollup-spec : {M : Type 1} → statement M
-no-rollup-spec = tie.close (tie.spec is-sound-requires returns returns-2)
+no-rollup-spec = tie.close (tie.spec (λ c κs. search needs) returns returns-2)

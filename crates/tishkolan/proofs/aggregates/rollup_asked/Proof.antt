@@ -1,13 +1,13 @@
--- The rollup that was asked for; or that none was. Assumes nothing.
+-- The rollup that was asked for; or that none was.
 use borrow.Author.Needs.{needs}
 use mathlib.Core.Path.{_≡_, sym, ap, _∙_}
 use mathlib.Core.List.{List}
 use Prim.Native.Nat.{ℕ}
-use Rattle.layer.specs.declared.CountAnswer.{CountAnswer}
-use Rattle.layer.specs.Changes.{changed}
-use Rattle.tishkolan.specs.declared.aggregates.Asked.{Asked}
-use Rattle.tishkolan.specs.declared.aggregates.Asked.the-variants.{Unknown}
-use Rattle.tishkolan.specs.Aggregates.{aggregationOf, noRollup, rollupBy, rollupAsked}
+use Rattle.refusal.specs.declared.CountAnswer.{CountAnswer}
+use Rattle.general.specs.Changed.{changed}
+use Rattle.face.specs.declared.Asked.{Asked}
+use Rattle.face.specs.declared.Asked.the-variants.{Unknown}
+use Rattle.face.specs.Aggregates.{aggregationOf, noRollup, rollupBy, rollupAsked}
 use Rattle.tishkolan.proofs.aggregates.rollup_asked.Statement.{statement}
 use Rattle.tishkolan.proofs.aggregates.rollup_asked.Tie as tie
 
@@ -17,24 +17,6 @@ by-asked fine n how coarse number known = ap (λ (a : Asked). rollupBy a fine n 
 
 by-none : (fine : List ℕ) (n how : ℕ) (coarse : List ℕ) {a : Asked} {r : CountAnswer} → a ≡ aggregationOf how → a ≡ Unknown → r ≡ noRollup fine n → changed r coarse ≡ rollupAsked fine n how coarse
 by-none fine n how coarse number known said = ap (λ (r : CountAnswer). changed r coarse) said ∙ by-asked fine n how coarse number known
-
-aggregation-of-requires : tie.Need-aggregation-of-requires
-aggregation-of-requires c κs = search needs
-
-enum-known-what : tie.Need-enum-known-what
-enum-known-what c = search needs
-
-rollup-requires : tie.Need-rollup-requires
-rollup-requires c κs = search needs
-
-enum-told : tie.Need-enum-told
-enum-told c = search needs
-
-no-rollup-requires : tie.Need-no-rollup-requires
-no-rollup-requires c κs = search needs
-
-same-length : tie.Need-same-length
-same-length c = search needs
 
 returns : tie.Need-returns
 returns c =
@@ -48,11 +30,11 @@ pub rollup-asked-spec : {M : Type 1} → statement M
 rollup-asked-spec =
     tie.close
     (tie.spec
-    aggregation-of-requires
-    enum-known-what
-    rollup-requires
-    enum-told
-    no-rollup-requires
-    same-length
+    (λ c κs. search needs)
+    (λ c. search needs)
+    (λ c κs. search needs)
+    (λ c. search needs)
+    (λ c κs. search needs)
+    (λ c. search needs)
     returns
     returns-2)

@@ -5,33 +5,6 @@ use mir.Facts.{toZ-ofZ}
 use Rattle.tishkolan.proofs.cells.fields.Statement.{statement}
 use Rattle.tishkolan.proofs.cells.fields.Tie as tie
 
-answered-requires : tie.Need-answered-requires
-answered-requires c κs = search needs
-
-frame-requires : tie.Need-frame-requires
-frame-requires c κs = search needs
-
-resolution-requires : tie.Need-resolution-requires
-resolution-requires c κs = search needs
-
-exponent-requires : tie.Need-exponent-requires
-exponent-requires c κs = search needs
-
-flags-requires : tie.Need-flags-requires
-flags-requires c κs = search needs
-
-reserved-requires : tie.Need-reserved-requires
-reserved-requires c κs = search needs
-
-x-requires : tie.Need-x-requires
-x-requires c κs = search needs
-
-y-requires : tie.Need-y-requires
-y-requires c κs = search needs
-
-z-requires : tie.Need-z-requires
-z-requires c κs = search needs
-
 returns : tie.Need-returns
 returns c =
     let first = c .before .before .before .before .before .before in
@@ -54,13 +27,13 @@ pub fields-spec : {M : Type 1} → statement M
 fields-spec =
     tie.close
     (tie.spec
-    answered-requires
-    frame-requires
-    resolution-requires
-    exponent-requires
-    flags-requires
-    reserved-requires
-    x-requires
-    y-requires
-    z-requires
+    (λ c κs. search needs)
+    (λ c κs. search needs)
+    (λ c κs. search needs)
+    (λ c κs. search needs)
+    (λ c κs. search needs)
+    (λ c κs. search needs)
+    (λ c κs. search needs)
+    (λ c κs. search needs)
+    (λ c κs. search needs)
     returns)

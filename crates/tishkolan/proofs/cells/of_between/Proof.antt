@@ -1,7 +1,7 @@
--- Each answer by its kind. Assumes nothing.
+-- Each answer by its kind.
 use borrow.Author.Needs.{needs}
 use mathlib.Core.Path.{sym, ap, _∙_}
-use Rattle.tishkolan.specs.Cells.{ofBetween}
+use Rattle.face.specs.Cells.{ofBetween}
 use Rattle.tishkolan.proofs.cells.of_between.Statement.{statement}
 use Rattle.tishkolan.proofs.cells.of_between.Tie as tie
 

@@ -1,18 +1,9 @@
 -- Each order by its kind.
 use borrow.Author.Needs.{needs}
 use mathlib.Core.Path.{sym, ap}
-use Rattle.tishkolan.specs.Cells.{orderNumber}
+use Rattle.face.specs.Cells.{orderNumber}
 use Rattle.tishkolan.proofs.cells.order_number.Statement.{statement}
 use Rattle.tishkolan.proofs.cells.order_number.Tie as tie
-
-enum-told : tie.Need-enum-told
-enum-told c = search needs
-
-enum-told-2 : tie.Need-enum-told-2
-enum-told-2 c = search needs
-
-enum-told-3 : tie.Need-enum-told-3
-enum-told-3 c = search needs
 
 returns : tie.Need-returns
 returns c = sym (ap orderNumber (c .enum-told .given .1))
@@ -25,4 +16,4 @@ returns-3 c = sym (ap orderNumber (c .enum-told3 .given .1))
 
 pub order-number-spec : {M : Type 1} → statement M
 order-number-spec =
-    tie.close (tie.spec enum-told enum-told-2 enum-told-3 returns returns-2 returns-3)
+    tie.close (tie.spec (λ c. search needs) (λ c. search needs) (λ c. search needs) returns returns-2 returns-3)

@@ -5,8 +5,9 @@ use mathlib.Core.List.{List}
 use Prim.Native.Nat.{ℕ}
 use Rattle.tishkolan.specs.declared.cells.PairAnswer.{PairAnswer}
 use Rattle.cell.specs.Cell.{betweenOf}
-use Rattle.told.specs.Told.{toldOf}
-use Rattle.tishkolan.specs.Cells.{pairOf, ofBetween, betweenTold}
+use Rattle.face.specs.Told.{toldOf}
+use Rattle.tishkolan.specs.Inner.Cells.{pairOf}
+use Rattle.face.specs.Cells.{ofBetween, betweenTold}
 use Rattle.tishkolan.proofs.Given.{byPair, on-cells}
 use Rattle.tishkolan.proofs.cells.tishkolan_cell_between.Statement.{statement}
 use Rattle.tishkolan.proofs.cells.tishkolan_cell_between.Tie as tie
@@ -14,24 +15,6 @@ use Rattle.tishkolan.proofs.cells.tishkolan_cell_between.Tie as tie
 by-cells : (l m : List ℕ) {a b : PairAnswer} → a ≡ pairOf l m → a ≡ b → byPair toldOf (λ d e. ofBetween (betweenOf d e)) b ≡ betweenTold l m
 unfolding betweenTold
 by-cells = on-cells toldOf (λ d e. ofBetween (betweenOf d e))
-
-both-requires : tie.Need-both-requires
-both-requires c κs = search needs
-
-enum-known-given : tie.Need-enum-known-given
-enum-known-given c = search needs
-
-told-requires : tie.Need-told-requires
-told-requires c κs = search needs
-
-enum-known-given-2 : tie.Need-enum-known-given-2
-enum-known-given-2 c = search needs
-
-cell-between-requires : tie.Need-cell-between-requires
-cell-between-requires c κs = search needs
-
-of-between-requires : tie.Need-of-between-requires
-of-between-requires c κs = search needs
 
 returns : tie.Need-returns
 returns c = let known = c .before .before in c .told .ensures ∙ by-cells _ _ (known .before .before .both .ensures) (known .given .given .1)
@@ -45,11 +28,11 @@ pub tishkolan-cell-between-spec : {M : Type 1} → statement M
 tishkolan-cell-between-spec =
     tie.close
     (tie.spec
-    both-requires
-    enum-known-given
-    told-requires
-    enum-known-given-2
-    cell-between-requires
-    of-between-requires
+    (λ c κs. search needs)
+    (λ c. search needs)
+    (λ c κs. search needs)
+    (λ c. search needs)
+    (λ c κs. search needs)
+    (λ c κs. search needs)
     returns
     returns-2)

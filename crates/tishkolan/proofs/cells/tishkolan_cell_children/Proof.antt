@@ -8,10 +8,10 @@ use lib.ListN.{length}
 use Rattle.cell.specs.declared.CellAnswer.{CellAnswer}
 use Rattle.cell.specs.declared.Children.{Children}
 use Rattle.cell.specs.Cell.{childrenOf}
-use Rattle.cell.specs.Bytes.{cellBytes, fromBytesOf}
-use Rattle.cell.specs.Stored.{length-cellBytes}
-use Rattle.told.specs.Told.{Filled, filled, fill}
-use Rattle.tishkolan.specs.Cells.{byCell, unfilled, cellsBytes, childrenTold}
+use Rattle.cell.specs.Bytes.{cellBytes, fromBytesOf, byCell}
+use Rattle.cell.proofs.Stored.{length-cellBytes}
+use Rattle.face.specs.Told.{Filled, filled, fill}
+use Rattle.face.specs.Cells.{unfilled, cellsBytes, childrenTold}
 use Rattle.tishkolan.proofs.Given.{on-cell}
 use Rattle.tishkolan.proofs.Found.{children-long}
 use Rattle.tishkolan.proofs.Writing.{length-flatMap, fill-refused, fill-no-room, fill-front}
@@ -37,45 +37,12 @@ long c =
     ∙ ap (λ (n : Children). 16 * length (n .cells)) (c .get-children .ensures)
     ∙ ap (λ (n : ℕ). 16 * n) (children-long _)
 
-from-bytes-requires : tie.Need-from-bytes-requires
-from-bytes-requires c κs = search needs
-
-enum-known-given : tie.Need-enum-known-given
-enum-known-given c = search needs
-
-told-requires : tie.Need-told-requires
-told-requires c κs = search needs
-
-enum-known-given-2 : tie.Need-enum-known-given-2
-enum-known-given-2 c = search needs
-
-get-children-requires : tie.Need-get-children-requires
-get-children-requires c κs = search needs
-
-enum-known-outcome : tie.Need-enum-known-outcome
-enum-known-outcome c = search needs
-
-told-requires-2 : tie.Need-told-requires-2
-told-requires-2 c κs = search needs
-
-enum-told : tie.Need-enum-told
-enum-told c = search needs
-
-told-requires-3 : tie.Need-told-requires-3
-told-requires-3 c κs = search needs
-
 returns : tie.Need-returns
 returns c =
     let found = c .before .before .before .before .before in
     let out = found .before .before .before .before .before .before .before .args .out .now in
     let size : length (cellsBytes (found .get-children .result .cells)) ≡ 128 = long found in
     fill-no-room _ out (c .before .before .enum-told .given .1) (omega arith) (c .told3 .ensures) ∙ by-found found
-
-put-children-requires : tie.Need-put-children-requires
-put-children-requires c κs = search needs
-
-answered-requires : tie.Need-answered-requires
-answered-requires c κs = search needs
 
 returns-2 : tie.Need-returns-2
 returns-2 c =
@@ -89,9 +56,6 @@ returns-3 c =
     let out = found .before .before .before .before .before .before .before .args .out .now in
     fill-refused _ out (c .before .before .outcome .given .1) (c .told2 .ensures) ∙ by-found found
 
-same-length : tie.Need-same-length
-same-length c = search needs
-
 returns-4 : tie.Need-returns-4
 returns-4 c =
     let found = c .before .before .before .before .before .before .before .before .before in
@@ -104,19 +68,19 @@ pub tishkolan-cell-children-spec : {M : Type 1} → statement M
 tishkolan-cell-children-spec =
     tie.close
     (tie.spec
-    from-bytes-requires
-    enum-known-given
-    told-requires
-    enum-known-given-2
-    get-children-requires
-    enum-known-outcome
-    told-requires-2
-    enum-told
-    told-requires-3
+    (λ c κs. search needs)
+    (λ c. search needs)
+    (λ c κs. search needs)
+    (λ c. search needs)
+    (λ c κs. search needs)
+    (λ c. search needs)
+    (λ c κs. search needs)
+    (λ c. search needs)
+    (λ c κs. search needs)
     returns
-    put-children-requires
-    answered-requires
+    (λ c κs. search needs)
+    (λ c κs. search needs)
     returns-2
     returns-3
-    same-length
+    (λ c. search needs)
     returns-4)

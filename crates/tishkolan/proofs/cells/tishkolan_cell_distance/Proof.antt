@@ -5,8 +5,9 @@ use mathlib.Core.List.{List}
 use Prim.Native.Nat.{ℕ}
 use Rattle.tishkolan.specs.declared.cells.PairAnswer.{PairAnswer}
 use Rattle.cell.specs.Cell.{distanceCells}
-use Rattle.told.specs.Told.{noBits, ofDistance}
-use Rattle.tishkolan.specs.Cells.{pairOf, distanceTold}
+use Rattle.face.specs.Told.{noBits, ofDistance}
+use Rattle.tishkolan.specs.Inner.Cells.{pairOf}
+use Rattle.face.specs.Cells.{distanceTold}
 use Rattle.tishkolan.proofs.Given.{byPair, on-cells}
 use Rattle.tishkolan.proofs.cells.tishkolan_cell_distance.Statement.{statement}
 use Rattle.tishkolan.proofs.cells.tishkolan_cell_distance.Tie as tie
@@ -14,24 +15,6 @@ use Rattle.tishkolan.proofs.cells.tishkolan_cell_distance.Tie as tie
 by-cells : (l m : List ℕ) {a b : PairAnswer} → a ≡ pairOf l m → a ≡ b → byPair noBits (λ d e. ofDistance (distanceCells d e)) b ≡ distanceTold l m
 unfolding distanceTold
 by-cells = on-cells noBits (λ d e. ofDistance (distanceCells d e))
-
-both-requires : tie.Need-both-requires
-both-requires c κs = search needs
-
-enum-known-given : tie.Need-enum-known-given
-enum-known-given c = search needs
-
-no-bits-requires : tie.Need-no-bits-requires
-no-bits-requires c κs = search needs
-
-enum-known-given-2 : tie.Need-enum-known-given-2
-enum-known-given-2 c = search needs
-
-distance-to-requires : tie.Need-distance-to-requires
-distance-to-requires c κs = search needs
-
-of-distance-requires : tie.Need-of-distance-requires
-of-distance-requires c κs = search needs
 
 returns : tie.Need-returns
 returns c = let known = c .before .before in c .no-bits .ensures ∙ by-cells _ _ (known .before .before .both .ensures) (known .given .given .1)
@@ -45,11 +28,11 @@ pub tishkolan-cell-distance-spec : {M : Type 1} → statement M
 tishkolan-cell-distance-spec =
     tie.close
     (tie.spec
-    both-requires
-    enum-known-given
-    no-bits-requires
-    enum-known-given-2
-    distance-to-requires
-    of-distance-requires
+    (λ c κs. search needs)
+    (λ c. search needs)
+    (λ c κs. search needs)
+    (λ c. search needs)
+    (λ c κs. search needs)
+    (λ c κs. search needs)
     returns
     returns-2)

@@ -5,12 +5,12 @@ use mathlib.Core.Bool.{Bool, cond}
 use mathlib.Core.List.{List}
 use Prim.Native.Nat.{ℕ}
 use Rattle.cell.specs.declared.CellAnswer.{CellAnswer}
-use Rattle.cell.specs.Bytes.{fromBytesOf}
+use Rattle.cell.specs.Bytes.{fromBytesOf, byCell}
 use lib.IntN.{pos}
 use Rattle.cell.specs.Cell.{isPlain}
-use Rattle.told.specs.declared.NumberTold.{NumberTold}
-use Rattle.told.specs.Told.{numberTold, noNumber}
-use Rattle.tishkolan.specs.Cells.{byCell, isPlainTold}
+use Rattle.face.specs.declared.NumberTold.{NumberTold}
+use Rattle.face.specs.Told.{numberTold, noNumber}
+use Rattle.face.specs.Cells.{isPlainTold}
 use Rattle.tishkolan.proofs.Given.{on-cell}
 use Rattle.tishkolan.proofs.cells.tishkolan_cell_is_plain.Statement.{statement}
 use Rattle.tishkolan.proofs.cells.tishkolan_cell_is_plain.Tie as tie
@@ -22,31 +22,10 @@ by-cell : (l : List ℕ) {a b : CellAnswer} → a ≡ fromBytesOf l → a ≡ b 
 unfolding isPlainTold
 by-cell = on-cell noNumber (λ d. bit (isPlain d))
 
-from-bytes-requires : tie.Need-from-bytes-requires
-from-bytes-requires c κs = search needs
-
-enum-known-given : tie.Need-enum-known-given
-enum-known-given c = search needs
-
-no-number-requires : tie.Need-no-number-requires
-no-number-requires c κs = search needs
-
-enum-known-given-2 : tie.Need-enum-known-given-2
-enum-known-given-2 c = search needs
-
-is-plain-requires : tie.Need-is-plain-requires
-is-plain-requires c κs = search needs
-
-number-requires : tie.Need-number-requires
-number-requires c κs = search needs
-
 returns : tie.Need-returns
 returns c =
     let known = c .before .before .before .before in
     c .number .ensures ∙ ap bit (sym (c .before .if1 .taken) ∙ c .before .before .is-plain .ensures) ∙ by-cell _ (known .before .before .from-bytes .ensures) (known .given2 .given .1)
-
-number-requires-2 : tie.Need-number-requires-2
-number-requires-2 c κs = search needs
 
 returns-2 : tie.Need-returns-2
 returns-2 c = let known = c .before .before in c .no-number .ensures ∙ by-cell _ (known .before .before .from-bytes .ensures) (known .given .given .1)
@@ -60,13 +39,13 @@ pub tishkolan-cell-is-plain-spec : {M : Type 1} → statement M
 tishkolan-cell-is-plain-spec =
     tie.close
     (tie.spec
-    from-bytes-requires
-    enum-known-given
-    no-number-requires
-    enum-known-given-2
-    is-plain-requires
-    number-requires
+    (λ c κs. search needs)
+    (λ c. search needs)
+    (λ c κs. search needs)
+    (λ c. search needs)
+    (λ c κs. search needs)
+    (λ c κs. search needs)
     returns
-    number-requires-2
+    (λ c κs. search needs)
     returns-2
     returns-3)

@@ -4,11 +4,11 @@ use mathlib.Core.Path.{_≡_, ap, _∙_}
 use mathlib.Core.List.{List}
 use Prim.Native.Nat.{ℕ}
 use Rattle.cell.specs.declared.CellAnswer.{CellAnswer}
-use Rattle.cell.specs.Bytes.{fromBytesOf}
+use Rattle.cell.specs.Bytes.{fromBytesOf, byCell}
 use Rattle.cell.specs.Cell.{latticeCoordOf}
 use Rattle.lattice.specs.declared.CoordAnswer.the-variants.{Refused}
-use Rattle.told.specs.Told.{ofCoord}
-use Rattle.tishkolan.specs.Cells.{byCell, latticeCoordTold}
+use Rattle.face.specs.Told.{ofCoord}
+use Rattle.face.specs.Cells.{latticeCoordTold}
 use Rattle.tishkolan.proofs.Given.{on-cell}
 use Rattle.tishkolan.proofs.cells.tishkolan_cell_lattice_coord.Statement.{statement}
 use Rattle.tishkolan.proofs.cells.tishkolan_cell_lattice_coord.Tie as tie
@@ -16,24 +16,6 @@ use Rattle.tishkolan.proofs.cells.tishkolan_cell_lattice_coord.Tie as t
 by-cell : (l : List ℕ) {a b : CellAnswer} → a ≡ fromBytesOf l → a ≡ b → byCell (λ r. ofCoord (Refused r)) (λ d. ofCoord (latticeCoordOf d)) b ≡ latticeCoordTold l
 unfolding latticeCoordTold
 by-cell = on-cell (λ r. ofCoord (Refused r)) (λ d. ofCoord (latticeCoordOf d))
-
-from-bytes-requires : tie.Need-from-bytes-requires
-from-bytes-requires c κs = search needs
-
-enum-known-given : tie.Need-enum-known-given
-enum-known-given c = search needs
-
-of-coord-requires : tie.Need-of-coord-requires
-of-coord-requires c κs = search needs
-
-enum-known-given-2 : tie.Need-enum-known-given-2
-enum-known-given-2 c = search needs
-
-lattice-coord-requires : tie.Need-lattice-coord-requires
-lattice-coord-requires c κs = search needs
-
-of-coord-requires-2 : tie.Need-of-coord-requires-2
-of-coord-requires-2 c κs = search needs
 
 returns : tie.Need-returns
 returns c = let known = c .before .before in c .of-coord .ensures ∙ by-cell _ (known .before .before .from-bytes .ensures) (known .given .given .1)
@@ -47,11 +29,11 @@ pub tishkolan-cell-lattice-coord-spec : {M : Type 1} → statement M
 tishkolan-cell-lattice-coord-spec =
     tie.close
     (tie.spec
-    from-bytes-requires
-    enum-known-given
-    of-coord-requires
-    enum-known-given-2
-    lattice-coord-requires
-    of-coord-requires-2
+    (λ c κs. search needs)
+    (λ c. search needs)
+    (λ c κs. search needs)
+    (λ c. search needs)
+    (λ c κs. search needs)
+    (λ c κs. search needs)
     returns
     returns-2)

@@ -5,8 +5,9 @@ use mathlib.Core.List.{List}
 use Prim.Native.Nat.{ℕ}
 use Rattle.tishkolan.specs.declared.cells.PairAnswer.{PairAnswer}
 use Rattle.cell.specs.Cell.{manhattanCells}
-use Rattle.told.specs.Told.{noNumber, ofNumber}
-use Rattle.tishkolan.specs.Cells.{pairOf, manhattanTold}
+use Rattle.face.specs.Told.{noNumber, ofNumber}
+use Rattle.tishkolan.specs.Inner.Cells.{pairOf}
+use Rattle.face.specs.Cells.{manhattanTold}
 use Rattle.tishkolan.proofs.Given.{byPair, on-cells}
 use Rattle.tishkolan.proofs.cells.tishkolan_cell_manhattan_distance.Statement.{statement}
 use Rattle.tishkolan.proofs.cells.tishkolan_cell_manhattan_distance.Tie as tie
@@ -14,24 +15,6 @@ use Rattle.tishkolan.proofs.cells.tishkolan_cell_manhattan_distance.Tie
 by-cells : (l m : List ℕ) {a b : PairAnswer} → a ≡ pairOf l m → a ≡ b → byPair noNumber (λ d e. ofNumber (manhattanCells d e)) b ≡ manhattanTold l m
 unfolding manhattanTold
 by-cells = on-cells noNumber (λ d e. ofNumber (manhattanCells d e))
-
-both-requires : tie.Need-both-requires
-both-requires c κs = search needs
-
-enum-known-given : tie.Need-enum-known-given
-enum-known-given c = search needs
-
-no-number-requires : tie.Need-no-number-requires
-no-number-requires c κs = search needs
-
-enum-known-given-2 : tie.Need-enum-known-given-2
-enum-known-given-2 c = search needs
-
-manhattan-distance-to-requires : tie.Need-manhattan-distance-to-requires
-manhattan-distance-to-requires c κs = search needs
-
-of-number-requires : tie.Need-of-number-requires
-of-number-requires c κs = search needs
 
 returns : tie.Need-returns
 returns c = let known = c .before .before in c .no-number .ensures ∙ by-cells _ _ (known .before .before .both .ensures) (known .given .given .1)
@@ -45,11 +28,11 @@ pub tishkolan-cell-manhattan-distance-spec : {M : Type 1} → statement M
 tishkolan-cell-manhattan-distance-spec =
     tie.close
     (tie.spec
-    both-requires
-    enum-known-given
-    no-number-requires
-    enum-known-given-2
-    manhattan-distance-to-requires
-    of-number-requires
+    (λ c κs. search needs)
+    (λ c. search needs)
+    (λ c κs. search needs)
+    (λ c. search needs)
+    (λ c κs. search needs)
+    (λ c κs. search needs)
     returns
     returns-2)

@@ -3,19 +3,10 @@ use borrow.Author.Needs.{needs}
 use mathlib.Core.Path.{ap, _∙_}
 use Rattle.refusal.specs.declared.Coord.{Coord}
 use Rattle.cell.specs.Cell.{newOf}
-use Rattle.tishkolan.specs.Cells.{fillCell, newTold}
+use Rattle.face.specs.Cells.{fillCell, newTold}
 use Rattle.tishkolan.proofs.Places.{kept-place}
 use Rattle.tishkolan.proofs.cells.tishkolan_cell_new.Statement.{statement}
 use Rattle.tishkolan.proofs.cells.tishkolan_cell_new.Tie as tie
-
-new-requires : tie.Need-new-requires
-new-requires c κs = search needs
-
-put-cell-requires : tie.Need-put-cell-requires
-put-cell-requires c κs = search needs
-
-same-length : tie.Need-same-length
-same-length c = search needs
 
 returns : tie.Need-returns
 unfolding newTold
@@ -27,4 +18,4 @@ returns c =
     ∙ ap (fillCell (start .args .out .now)) (made ∙ ap (λ (d : Coord). newOf (start .args .frame) (start .args .resolution) d (start .args .exponent) (start .args .flags)) place)
 
 pub tishkolan-cell-new-spec : {M : Type 1} → statement M
-tishkolan-cell-new-spec = tie.close (tie.spec new-requires put-cell-requires same-length returns)
+tishkolan-cell-new-spec = tie.close (tie.spec (λ c κs. search needs) (λ c κs. search needs) (λ c. search needs) returns)

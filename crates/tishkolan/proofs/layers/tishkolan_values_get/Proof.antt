@@ -1,15 +1,9 @@
--- What `keep` says, told. Assumes nothing.
+-- What `layer` says, told.
 use borrow.Author.Needs.{needs}
 use mathlib.Core.Path.{ap, _∙_}
-use Rattle.told.specs.Layers.{ofValueKept}
+use Rattle.face.specs.Layers.{ofValueKept}
 use Rattle.tishkolan.proofs.layers.tishkolan_values_get.Statement.{statement}
 use Rattle.tishkolan.proofs.layers.tishkolan_values_get.Tie as tie
-
-get-value-requires : tie.Need-get-value-requires
-get-value-requires c κs = search needs
-
-of-value-kept-requires : tie.Need-of-value-kept-requires
-of-value-kept-requires c κs = search needs
 
 returns : tie.Need-returns
 returns c =
@@ -17,4 +11,4 @@ returns c =
     c .of-value-kept .ensures ∙ ap (ofValueKept count count) (c .before .get-value .ensures)
 
 pub tishkolan-values-get-spec : {M : Type 1} → statement M
-tishkolan-values-get-spec = tie.close (tie.spec get-value-requires of-value-kept-requires returns)
+tishkolan-values-get-spec = tie.close (tie.spec (λ c κs. search needs) (λ c κs. search needs) returns)

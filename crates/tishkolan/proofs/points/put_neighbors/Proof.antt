@@ -3,8 +3,8 @@ use borrow.Author.Needs.{needs}
 use native.Mathlib.Omega.{arith}
 use Prim.Native.Nat.{_-_}
 use mathlib.Core.Path.{refl}
-use Rattle.refusal.specs.Table.{noCoord}
-use Rattle.tishkolan.specs.Points.{triple}
+use Rattle.refusal.specs.Refusals.{noCoord}
+use Rattle.face.specs.Points.{triple}
 use Rattle.tishkolan.proofs.Writing.{Written, written-none, written-length, written-room, written-more, written-all}
 use Rattle.tishkolan.proofs.points.put_neighbors.Statement.{statement}
 use Rattle.tishkolan.proofs.points.put_neighbors.Tie as tie
@@ -18,23 +18,8 @@ abbrev μ-loop : tie.MeasureT-loop
 loop-holds : tie.Need-loop-holds Inv-loop μ-loop
 loop-holds c = written-none (search needs) (search needs)
 
-mul-put-place : tie.Need-mul-put-place Inv-loop μ-loop
-mul-put-place c = search needs
-
-mul-put-place-2 : tie.Need-mul-put-place-2 Inv-loop μ-loop
-mul-put-place-2 c = search needs
-
-array-copy-out-put-place : tie.Need-array-copy-out-put-place Inv-loop μ-loop
-array-copy-out-put-place c = search needs
-
 put-place-requires : tie.Need-put-place-requires Inv-loop μ-loop
 put-place-requires c κs = written-room (λ p. refl) (c .before .before .before .loop .inv) (omega arith)
-
-add-i : tie.Need-add-i Inv-loop μ-loop
-add-i c = search needs
-
-loop-less : tie.Need-loop-less Inv-loop μ-loop
-loop-less c = search needs
 
 loop-again : tie.Need-loop-again Inv-loop μ-loop
 loop-again c = written-more (λ p. refl) (c .before .before .before .before .before .loop .inv) noCoord (omega arith) (c .before .put-place .ensures)
@@ -52,12 +37,12 @@ put-neighbors-spec =
     Inv-loop
     μ-loop
     loop-holds
-    mul-put-place
-    mul-put-place-2
-    array-copy-out-put-place
+    (λ c. search needs)
+    (λ c. search needs)
+    (λ c. search needs)
     put-place-requires
-    add-i
-    loop-less
+    (λ c. search needs)
+    (λ c. search needs)
     loop-again
     same-length
     returns)

@@ -9,32 +9,11 @@ use Rattle.tishkolan.proofs.Places.{kept-place, sets-three}
 use Rattle.tishkolan.proofs.points.put_place.Statement.{statement}
 use Rattle.tishkolan.proofs.points.put_place.Tie as tie
 
-mul-x : tie.Need-mul-x
-mul-x c = search needs
-
-slice-set-from-x : tie.Need-slice-set-from-x
-slice-set-from-x c = search needs
-
-add-y : tie.Need-add-y
-add-y c = search needs
-
-mul-y : tie.Need-mul-y
-mul-y c = search needs
-
 slice-set-from-y : tie.Need-slice-set-from-y
 slice-set-from-y c = simp length-set (omega arith)
 
-add-z : tie.Need-add-z
-add-z c = search needs
-
-mul-z : tie.Need-mul-z
-mul-z c = search needs
-
 slice-set-from-z : tie.Need-slice-set-from-z
 slice-set-from-z c = simp length-set (omega arith)
-
-same-length : tie.Need-same-length
-same-length c = search needs
 
 returns : tie.Need-returns
 returns c =
@@ -51,13 +30,13 @@ pub put-place-spec : {M : Type 1} → statement M
 put-place-spec =
     tie.close
     (tie.spec
-    mul-x
-    slice-set-from-x
-    add-y
-    mul-y
+    (λ c. search needs)
+    (λ c. search needs)
+    (λ c. search needs)
+    (λ c. search needs)
     slice-set-from-y
-    add-z
-    mul-z
+    (λ c. search needs)
+    (λ c. search needs)
     slice-set-from-z
-    same-length
+    (λ c. search needs)
     returns)

@@ -6,8 +6,8 @@ use mathlib.Core.Path.{_≡_, refl, ap, _∙_}
 use lib.ListN.{length}
 use Rattle.lattice.specs.declared.Children.{Children}
 use Rattle.lattice.specs.Lattice.{at, childrenOf}
-use Rattle.told.specs.Told.{fill}
-use Rattle.tishkolan.specs.Points.{triple, triples, childrenTold}
+use Rattle.face.specs.Told.{fill}
+use Rattle.face.specs.Points.{triple, triples, childrenTold}
 use Rattle.tishkolan.proofs.Places.{kept-place, children-long}
 use Rattle.tishkolan.proofs.Writing.{length-flatMap, fill-refused, fill-no-room, fill-front}
 use Rattle.tishkolan.proofs.points.tishkolan_lattice_children.Statement.{statement}
@@ -25,21 +25,6 @@ long c =
     ∙ ap (λ (n : Children). 3 * length (n .coords)) (c .get-children .ensures)
     ∙ ap (λ (n : ℕ). 3 * n) (children-long _)
 
-get-children-requires : tie.Need-get-children-requires
-get-children-requires c κs = search needs
-
-enum-known-outcome : tie.Need-enum-known-outcome
-enum-known-outcome c = search needs
-
-told-requires : tie.Need-told-requires
-told-requires c κs = search needs
-
-enum-told : tie.Need-enum-told
-enum-told c = search needs
-
-told-requires-2 : tie.Need-told-requires-2
-told-requires-2 c κs = search needs
-
 returns : tie.Need-returns
 returns c =
     let found = c .before .before .before .before .before in
@@ -49,20 +34,11 @@ returns c =
     fill-no-room numbers out (c .before .before .enum-told .given .1) (omega arith) (c .told2 .ensures)
     ∙ by-found found
 
-put-children-requires : tie.Need-put-children-requires
-put-children-requires c κs = search needs
-
-answered-requires : tie.Need-answered-requires
-answered-requires c κs = search needs
-
 returns-2 : tie.Need-returns-2
 returns-2 c =
     let found = c .before .before .before .before .before in
     fill-refused (triples (found .get-children .result .coords)) (found .before .args .out .now) (c .before .before .outcome .given .1) (c .told .ensures)
     ∙ by-found found
-
-same-length : tie.Need-same-length
-same-length c = search needs
 
 returns-3 : tie.Need-returns-3
 returns-3 c =
@@ -77,14 +53,14 @@ pub tishkolan-lattice-children-spec : {M : Type 1} → statement M
 tishkolan-lattice-children-spec =
     tie.close
     (tie.spec
-    get-children-requires
-    enum-known-outcome
-    told-requires
-    enum-told
-    told-requires-2
+    (λ c κs. search needs)
+    (λ c. search needs)
+    (λ c κs. search needs)
+    (λ c. search needs)
+    (λ c κs. search needs)
     returns
-    put-children-requires
-    answered-requires
+    (λ c κs. search needs)
+    (λ c κs. search needs)
     returns-2
-    same-length
+    (λ c. search needs)
     returns-3)

@@ -2,16 +2,10 @@
 use borrow.Author.Needs.{needs}
 use mathlib.Core.Path.{ap, _∙_}
 use Rattle.distance.specs.Distance.{distanceOf}
-use Rattle.told.specs.Told.{ofDistance}
+use Rattle.face.specs.Told.{ofDistance}
 use Rattle.tishkolan.proofs.Places.{kept-place}
 use Rattle.tishkolan.proofs.points.tishkolan_lattice_distance.Statement.{statement}
 use Rattle.tishkolan.proofs.points.tishkolan_lattice_distance.Tie as tie
-
-distance-to-requires : tie.Need-distance-to-requires
-distance-to-requires c κs = search needs
-
-of-distance-requires : tie.Need-of-distance-requires
-of-distance-requires c κs = search needs
 
 returns : tie.Need-returns
 returns c =
@@ -22,4 +16,4 @@ returns c =
 
 pub tishkolan-lattice-distance-spec : {M : Type 1} → statement M
 tishkolan-lattice-distance-spec =
-    tie.close (tie.spec distance-to-requires of-distance-requires returns)
+    tie.close (tie.spec (λ c κs. search needs) (λ c κs. search needs) returns)

@@ -2,18 +2,12 @@
 use borrow.Author.Needs.{needs}
 use mathlib.Core.Path.{ap, _∙_}
 use Rattle.lattice.specs.Lattice.{manhattanOf}
-use Rattle.told.specs.Told.{ofNumber}
+use Rattle.face.specs.Told.{ofNumber}
 use Rattle.tishkolan.proofs.Places.{kept-place}
 use Rattle.tishkolan.proofs.points.tishkolan_lattice_manhattan_distance.Statement.{
   statement,
 }
 use Rattle.tishkolan.proofs.points.tishkolan_lattice_manhattan_distance.Tie as tie
-
-manhattan-distance-to-requires : tie.Need-manhattan-distance-to-requires
-manhattan-distance-to-requires c κs = search needs
-
-of-number-requires : tie.Need-of-number-requires
-of-number-requires c κs = search needs
 
 returns : tie.Need-returns
 returns c =
@@ -24,4 +18,4 @@ returns c =
 
 pub tishkolan-lattice-manhattan-distance-spec : {M : Type 1} → statement M
 tishkolan-lattice-manhattan-distance-spec =
-    tie.close (tie.spec manhattan-distance-to-requires of-number-requires returns)
+    tie.close (tie.spec (λ c κs. search needs) (λ c κs. search needs) returns)

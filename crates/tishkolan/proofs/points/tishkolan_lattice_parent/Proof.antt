@@ -2,16 +2,10 @@
 use borrow.Author.Needs.{needs}
 use mathlib.Core.Path.{ap, _∙_}
 use Rattle.lattice.specs.Lattice.{parentOf}
-use Rattle.told.specs.Told.{ofCoord}
+use Rattle.face.specs.Told.{ofCoord}
 use Rattle.tishkolan.proofs.Places.{kept-place}
 use Rattle.tishkolan.proofs.points.tishkolan_lattice_parent.Statement.{statement}
 use Rattle.tishkolan.proofs.points.tishkolan_lattice_parent.Tie as tie
-
-get-parent-requires : tie.Need-get-parent-requires
-get-parent-requires c κs = search needs
-
-of-coord-requires : tie.Need-of-coord-requires
-of-coord-requires c κs = search needs
 
 returns : tie.Need-returns
 returns c =
@@ -19,4 +13,4 @@ returns c =
     c .of-coord .ensures ∙ ap ofCoord (c .before .get-parent .ensures ∙ ap parentOf (kept-place (fits .x) (fits .y) (fits .z)))
 
 pub tishkolan-lattice-parent-spec : {M : Type 1} → statement M
-tishkolan-lattice-parent-spec = tie.close (tie.spec get-parent-requires of-coord-requires returns)
+tishkolan-lattice-parent-spec = tie.close (tie.spec (λ c κs. search needs) (λ c κs. search needs) returns)

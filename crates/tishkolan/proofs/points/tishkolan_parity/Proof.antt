@@ -2,16 +2,10 @@
 use borrow.Author.Needs.{needs}
 use mathlib.Core.Path.{ap, _∙_}
 use Rattle.lattice.specs.Lattice.{parityOf}
-use Rattle.told.specs.Told.{ofParity}
+use Rattle.face.specs.Told.{ofParity}
 use Rattle.tishkolan.proofs.Places.{kept-place}
 use Rattle.tishkolan.proofs.points.tishkolan_parity.Statement.{statement}
 use Rattle.tishkolan.proofs.points.tishkolan_parity.Tie as tie
-
-parity-of-requires : tie.Need-parity-of-requires
-parity-of-requires c κs = search needs
-
-of-parity-requires : tie.Need-of-parity-requires
-of-parity-requires c κs = search needs
 
 returns : tie.Need-returns
 returns c =
@@ -19,4 +13,4 @@ returns c =
     c .of-parity .ensures ∙ ap ofParity (c .before .parity-of .ensures ∙ ap parityOf (kept-place (fits .x) (fits .y) (fits .z)))
 
 pub tishkolan-parity-spec : {M : Type 1} → statement M
-tishkolan-parity-spec = tie.close (tie.spec parity-of-requires of-parity-requires returns)
+tishkolan-parity-spec = tie.close (tie.spec (λ c κs. search needs) (λ c κs. search needs) returns)

@@ -2,16 +2,10 @@
 use borrow.Author.Needs.{needs}
 use mathlib.Core.Path.{ap, _∙_}
 use Rattle.snap.specs.Snap.{physicalBitsOf}
-use Rattle.told.specs.Told.{ofPoint}
+use Rattle.face.specs.Told.{ofPoint}
 use Rattle.tishkolan.proofs.Places.{kept-place}
 use Rattle.tishkolan.proofs.points.tishkolan_to_physical.Statement.{statement}
 use Rattle.tishkolan.proofs.points.tishkolan_to_physical.Tie as tie
-
-physical-bits-requires : tie.Need-physical-bits-requires
-physical-bits-requires c κs = search needs
-
-of-point-requires : tie.Need-of-point-requires
-of-point-requires c κs = search needs
 
 returns : tie.Need-returns
 returns c =
@@ -19,4 +13,4 @@ returns c =
     c .of-point .ensures ∙ ap ofPoint (c .before .physical-bits .ensures ∙ ap physicalBitsOf (kept-place (fits .x) (fits .y) (fits .z)))
 
 pub tishkolan-to-physical-spec : {M : Type 1} → statement M
-tishkolan-to-physical-spec = tie.close (tie.spec physical-bits-requires of-point-requires returns)
+tishkolan-to-physical-spec = tie.close (tie.spec (λ c κs. search needs) (λ c κs. search needs) returns)

@@ -1,23 +1,8 @@
--- What `astar` says and leaves, told. Assumes nothing.
+-- What `astar` says and leaves, told.
 use borrow.Author.Needs.{needs}
 use Rattle.tishkolan.proofs.SearchSaid.{search-said}
 use Rattle.tishkolan.proofs.searches.tishkolan_astar_with_limit.Statement.{statement}
 use Rattle.tishkolan.proofs.searches.tishkolan_astar_with_limit.Tie as tie
-
-astar-with-limit-requires : tie.Need-astar-with-limit-requires
-astar-with-limit-requires c κs = search needs
-
-of-search-requires : tie.Need-of-search-requires
-of-search-requires c κs = search needs
-
-same-length : tie.Need-same-length
-same-length c = search needs
-
-same-length-2 : tie.Need-same-length-2
-same-length-2 c = search needs
-
-same-length-3 : tie.Need-same-length-3
-same-length-3 c = search needs
 
 returns : tie.Need-returns
 returns c = search-said (c .before .before .before .before .before .before .before .astar-with-limit .ensures) (c .of-search .ensures)
@@ -26,9 +11,9 @@ pub tishkolan-astar-with-limit-spec : {M : Type 1} → statement M
 tishkolan-astar-with-limit-spec =
     tie.close
     (tie.spec
-    astar-with-limit-requires
-    of-search-requires
-    same-length
-    same-length-2
-    same-length-3
+    (λ c κs. search needs)
+    (λ c κs. search needs)
+    (λ c. search needs)
+    (λ c. search needs)
+    (λ c. search needs)
     returns)

@@ -1,29 +1,17 @@
--- What `survey` says and leaves, told. Assumes nothing.
+-- What `survey` says and leaves, told.
 use borrow.Author.Needs.{needs}
 use mathlib.Core.Path.{_≡_, ap, _∙_}
 use mathlib.Core.List.{List}
 use Prim.Native.Nat.{ℕ}
 use Rattle.survey.specs.declared.LoadAnswer.{LoadAnswer}
 use Rattle.survey.specs.Survey.{Loading, loading}
-use Rattle.told.specs.declared.LoadTold.{LoadTold}
-use Rattle.told.specs.Surveys.{ofLoad, loadingTold, ofLoading}
+use Rattle.face.specs.declared.LoadTold.{LoadTold}
+use Rattle.face.specs.Surveys.{ofLoad, loadingTold, ofLoading}
 use Rattle.tishkolan.proofs.surveys.tishkolan_survey_load.Statement.{statement}
 use Rattle.tishkolan.proofs.surveys.tishkolan_survey_load.Tie as tie
 
 loading-as : (n m : ℕ) {a : LoadAnswer} {t : LoadTold} {f v : List ℕ} {g : Loading} → loading a f v ≡ g → t ≡ ofLoad n m a → loadingTold t f v ≡ ofLoading n m g
 loading-as n m {f = f} {v = v} e told = ap (λ (t : LoadTold). loadingTold t f v) told ∙ ap (ofLoading n m) e
-
-load-requires : tie.Need-load-requires
-load-requires c κs = search needs
-
-of-load-requires : tie.Need-of-load-requires
-of-load-requires c κs = search needs
-
-same-length : tie.Need-same-length
-same-length c = search needs
-
-same-length-2 : tie.Need-same-length-2
-same-length-2 c = search needs
 
 returns : tie.Need-returns
 returns c =
@@ -32,4 +20,4 @@ returns c =
 
 pub tishkolan-survey-load-spec : {M : Type 1} → statement M
 tishkolan-survey-load-spec =
-    tie.close (tie.spec load-requires of-load-requires same-length same-length-2 returns)
+    tie.close (tie.spec (λ c κs. search needs) (λ c κs. search needs) (λ c. search needs) (λ c. search needs) returns)

@@ -1,0 +1,3 @@
+pub mod Answer
+pub mod Bytes
+pub mod Call

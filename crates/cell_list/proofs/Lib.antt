@@ -1,0 +1,5 @@
+pub mod Theorems
+pub mod Listing
+pub mod Laws
+pub mod Writing
+pub mod ReadBack

@@ -1,0 +1,10 @@
+pub mod Told
+pub mod Layers
+pub mod Surveys
+pub mod Rings
+pub mod Searches
+pub mod Aggregates
+pub mod Cells
+pub mod LayerAnswers
+pub mod Points
+pub mod Terms

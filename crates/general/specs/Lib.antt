@@ -1,0 +1,4 @@
+pub mod Each
+pub mod Refuse
+pub mod Changed
+pub mod OneAnswer

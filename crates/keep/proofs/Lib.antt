@@ -1,3 +1,0 @@
-mod Answers
-mod Rewritten
-pub mod OneAnswer

@@ -1,0 +1,5 @@
+pub mod Chain
+pub mod Known
+pub mod Found
+pub mod Seek
+pub mod Workspace

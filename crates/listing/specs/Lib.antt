@@ -1,3 +1,0 @@
-pub mod Listing
-pub mod Laws
-pub mod Writing

@@ -1,5 +1,0 @@
-mod Runs
-mod Counting
-mod Merging
-mod Halves
-pub mod InOrder

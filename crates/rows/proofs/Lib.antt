@@ -1,4 +1,0 @@
-pub mod Looked
-pub mod Written
-pub mod Appended
-mod OneAnswer

@@ -1,0 +1,2 @@
+pub mod KnownCell
+pub mod Counted

@@ -1,3 +1,0 @@
-pub mod OneAnswer
-pub mod Points
-pub mod Room

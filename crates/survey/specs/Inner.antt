@@ -1,0 +1,4 @@
+pub mod Sized
+pub mod Within
+pub mod Gathered
+pub mod Room

@@ -1,0 +1,4 @@
+pub mod Records
+pub mod Flags
+pub mod Terms
+pub mod Inner

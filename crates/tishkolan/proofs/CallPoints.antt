@@ -1,0 +1,71 @@
+-- Known points of what C is told, by computation: a distance, a search beyond its limit, a cell that is made and read, and a parent's children.
+use mathlib.Core.Bool.{false}
+use mathlib.Core.List.{[], _∷_, flatMap}
+use mathlib.Core.Path.{refl, _≡_}
+use borrow.Fn.Kinds.{endedOf}
+use lib.IntN.{pos, negsuc}
+use lib.Ieee.{fin, binary64, ofBits, toBits}
+use lib.ListN.{replicate, take, drop}
+use contract.Lifetimes.{Lfts}
+use denote.Triple.Clauses.{AtExit}
+use Rattle.refusal.specs.Refusals.{rawOf}
+use Rattle.refusal.specs.declared.Coord.{Coord}
+use Rattle.words.specs.Word.{word, number, ordered, lowDigits, bytesOf}
+use Rattle.lattice.specs.Lattice.{at, isLatticePoint, parityOf, childSteps, childPlaces, hasChildRoom, childrenOf, parentOf}
+use Rattle.lattice.specs.declared.CoordAnswer.the-variants as coord
+use Rattle.distance.specs.Distance.{squaredDistance, distanceOf}
+use Rattle.distance.specs.Nearest.{NearestRoot}
+use Rattle.cell.specs.Cell.{packed, newOf}
+use Rattle.cell.specs.Bytes.{cellAt, cellBytes, fromBytesOf}
+use Rattle.table.specs.Records.{layer}
+use Rattle.search.specs.Plan.{searchOf}
+use Rattle.known.specs.Workspace.{inRooms}
+use Rattle.astar.specs.Call.{hasRooms, searchIn, asking, buffers}
+use Rattle.face.specs.declared.BitsTold.{BitsTold}
+use Rattle.face.specs.Told.{bitsTold, answered, ofCoord}
+use Rattle.face.specs.declared.SearchTold.{SearchTold}
+use Rattle.face.specs.Searches.{ofSearched}
+use Rattle.face.specs.Cells.{newTold, fieldsTold}
+use Rattle.face.specs.Terms.{fieldsGiven}
+use Rattle.face.specs.Points.{childrenTold}
+use Rattle.tishkolan.proofs as here
+use Rattle.tishkolan.proofs.Calls.{LatticeDistance}
+use Rattle.tishkolan.proofs.Distances.{lattice-distance-nearest}
+
+abbrev corner : BitsTold
+corner = bitsTold 0x3FFB_B67A_E858_4CAA
+
+module _ (κs : Lfts 0) (e : AtExit (endedOf 0 here.points.tishkolan_lattice_distance.Kinds.ps here.points.tishkolan_lattice_distance.Kinds.r) κs) where
+  pub corner-told : LatticeDistance
+  unfolding distanceOf toBits
+  corner-told = record { lifetimes = κs; arguments = (pos 0, (pos 0, (pos 0, (pos 1, (pos 1, (pos 1, tt)))))); told = corner; exit = e; meets = refl }
+
+  pub corner-told-nearest : NearestRoot (fin false 3 (pos 0)) (ofBits binary64 0x3FFB_B67A_E858_4CAA)
+  unfolding squaredDistance corner-told
+  corner-told-nearest = lattice-distance-nearest corner-told refl
+
+-- from (0, 0, 0) to (2, 2, 0) with a limit of 0, in rooms of 1 and 1: the bytes of the call tell 7, one expansion and the limit 0
+abbrev told-at-nought : SearchTold
+told-at-nought =
+    ofSearched (searchIn (asking (replicate 16 0) (0 ∷ 0 ∷ 0 ∷ 2 ∷ 0 ∷ 0 ∷ 0 ∷ 2 ∷ replicate 8 0) (inRooms 1 1) 0 0 (layer [] 0)) (buffers (replicate 108 9) (replicate 32 9) [])) .told
+
+pub nought-told : (told-at-nought .refusal .number ≡ 7) × (told-at-nought .expansions ≡ 1) × (told-at-nought .limit ≡ 0)
+unfolding searchIn hasRooms word number ordered searchOf packed rawOf
+nought-told = (refl, refl, refl)
+
+abbrev document-place : Coord
+document-place = at (pos 1) (negsuc 0) (pos 1)
+
+pub document-cell : fieldsTold (take 16 (newTold 0 3 document-place 28 165 (replicate 16 0) .out)) ≡ fieldsGiven 0 3 document-place 12 165
+unfolding newTold newOf packed parityOf isLatticePoint cellBytes bytesOf lowDigits fieldsTold fromBytesOf cellAt word number ordered
+document-cell = refl
+
+pub document-cell-made : newTold 0 3 document-place 28 165 (replicate 16 0) .told ≡ answered
+unfolding newTold newOf packed parityOf isLatticePoint cellBytes bytesOf lowDigits ordered
+document-cell-made = refl
+
+-- the parent of (3, 3, 1) is told as (1, 1, 1), and (3, 3, 1) is the sixth place that is listed for it
+pub sixth-listed : (ofCoord (parentOf (at (pos 3) (pos 3) (pos 1))) ≡ ofCoord (coord.At (at (pos 1) (pos 1) (pos 1))))
+    × (take 3 (drop 15 (childrenTold (at (pos 1) (pos 1) (pos 1)) (replicate 24 (pos 0)) .out)) ≡ pos 3 ∷ pos 3 ∷ pos 1 ∷ [])
+unfolding childrenTold childrenOf parentOf parityOf isLatticePoint hasChildRoom childPlaces childSteps flatMap
+sixth-listed = (refl, refl)

@@ -1,0 +1,5 @@
+pub mod Heap
+pub mod Entries
+pub mod Sorted
+pub mod Steps
+pub mod Sift
