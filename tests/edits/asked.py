@@ -5,10 +5,13 @@ What the incremental check proves is not the verdict of a gate; what it refuses 
 import os
 import re
 import shutil
+import signal
 import subprocess
 import tempfile
 import threading
 import time
+
+TOO_LONG = 600  # seconds: a wrong program can lead the prover's own search astray
 
 TOP = os.path.abspath(os.path.join(os.path.dirname(os.path.abspath(__file__)), '..', '..'))
 
@@ -44,13 +47,28 @@ class Tree:
     def ask(self, crate):
         """(verdict, what was said, seconds); the verdict is proved, refused, no program, or untold"""
         began = time.time()
-        run = subprocess.run(['rt', 'dev', crate], cwd=self.top, stdout=subprocess.PIPE, stderr=subprocess.STDOUT, encoding='utf-8', errors='replace')
-        said, took = run.stdout, time.time() - began
-        if run.returncode == 0:
+        status, said = self.run(['rt', 'dev', crate])
+        took = time.time() - began
+        if status == 0:
             return 'proved', said, took
-        if run.returncode == 1:
+        if status == 1:
             return ('refused' if re.search(r'^logic=not-proved', said, re.M) else 'no program'), said, took
         return 'untold', said, took
+
+    def run(self, words):
+        """the exit status of a command in this tree, None if it takes too long, and what it said"""
+        run = subprocess.Popen(
+            words, cwd=self.top, stdout=subprocess.PIPE, stderr=subprocess.STDOUT, encoding='utf-8', errors='replace', start_new_session=True
+        )
+        try:
+            said, _ = run.communicate(timeout=TOO_LONG)
+        except BaseException as fault:
+            os.killpg(run.pid, signal.SIGKILL)
+            said, _ = run.communicate()
+            if not isinstance(fault, subprocess.TimeoutExpired):
+                raise
+            return None, said
+        return run.returncode, said
 
 
 class Workers:

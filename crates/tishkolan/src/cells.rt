@@ -1,8 +1,9 @@
 // Cells for C: a cell is its 16 bytes, and another length is refused before anything else.
 ghost use mathlib.Core.Path.{_≡_};
-ghost use Prim.Native.Nat.{_≤_};
+ghost use Prim.Native.Nat.{_*_, _≤_};
 ghost use lib.ListN.{length};
 ghost use Rattle.lattice.specs.Lattice.{at};
+ghost use Rattle.cell.specs.Bytes.{cellWidth};
 ghost use Rattle.face.specs.Told.{filled, fronted};
 ghost use Rattle.tishkolan.specs.Inner.Cells.{pairOf};
 ghost use Rattle.face.specs.Cells.{orderNumber, fillCell, cellsBytes, newTold, neighborsTold, childrenTold, parentTold, ancestorTold, noFields};
@@ -21,6 +22,12 @@ use refusal::Cell;
 use refusal::Outcome;
 use refusal::Refusal;
 use refusal::Room;
+
+// The bytes of the 14 neighbours.
+const NEIGHBORS_WIDTH: usize = 14 * cell::CELL_WIDTH;
+
+// The bytes of the 8 children.
+const CHILDREN_WIDTH: usize = 8 * cell::CELL_WIDTH;
 
 // The two cells that C hands over.
 struct Pair {
@@ -267,7 +274,7 @@ pub extern "C" fn tishkolan_cell_manhattan_distance(first: &[u8], second: &[u8])
 
 // The bytes of 14 cells, at the front.
 fn put_neighbors(out: &mut [u8], cells: [Cell; 14])
-    requires { ⌜ 224 ≤ length (now out) ⌝ }
+    requires { ⌜ 14 * cellWidth ≤ length (now out) ⌝ }
     ensures { λ _. ⌜ now (out .exit) ≡ fronted (cellsBytes cells) (now (out .entry)) ⌝ }
 {
     let mut i = 0;
@@ -279,7 +286,7 @@ fn put_neighbors(out: &mut [u8], cells: [Cell; 14])
 
 // The bytes of 8 cells, at the front.
 fn put_children(out: &mut [u8], cells: [Cell; 8])
-    requires { ⌜ 128 ≤ length (now out) ⌝ }
+    requires { ⌜ 8 * cellWidth ≤ length (now out) ⌝ }
     ensures { λ _. ⌜ now (out .exit) ≡ fronted (cellsBytes cells) (now (out .entry)) ⌝ }
 {
     let mut i = 0;
@@ -304,7 +311,7 @@ pub extern "C" fn tishkolan_cell_neighbors(cell: &[u8], out: &mut [u8]) -> Refus
             match outcome {
                 Outcome::Refused(r) => face::told(r),
                 Outcome::Answered => {
-                    if out.len() < 224 {
+                    if out.len() < NEIGHBORS_WIDTH {
                         return face::told(Refusal::NoRoom(Room::Output));
                     }
                     put_neighbors(out, cells);
@@ -330,7 +337,7 @@ pub extern "C" fn tishkolan_cell_children(cell: &[u8], out: &mut [u8]) -> Refusa
             match outcome {
                 Outcome::Refused(r) => face::told(r),
                 Outcome::Answered => {
-                    if out.len() < 128 {
+                    if out.len() < CHILDREN_WIDTH {
                         return face::told(Refusal::NoRoom(Room::Output));
                     }
                     put_children(out, cells);

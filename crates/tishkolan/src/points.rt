@@ -1,6 +1,6 @@
 // Points for C: the square root, the lattice, snap and the distances. A point is its three numbers; a double is its bits.
 ghost use mathlib.Core.Path.{_≡_};
-ghost use Prim.Native.Nat.{_+_, _≤_};
+ghost use Prim.Native.Nat.{_+_, _*_, _≤_};
 ghost use lib.Ieee.{binary64, ofBits};
 ghost use lib.ListN.{length};
 ghost use lib.Seq.{sets};
@@ -19,6 +19,13 @@ use refusal::Coord;
 use refusal::Outcome;
 use refusal::Refusal;
 use refusal::Room;
+
+// The numbers of a place: x, y and z.
+const PLACE_LENGTH: usize = 3;
+
+const NEIGHBORS_LENGTH: usize = 14 * PLACE_LENGTH;
+
+const CHILDREN_LENGTH: usize = 8 * PLACE_LENGTH;
 
 // The nearest double to the root.
 #[no_mangle]
@@ -71,24 +78,24 @@ fn put_place(out: &mut [i32], at: usize, c: Coord)
 
 // The coordinates of 14 places, at the front.
 fn put_neighbors(out: &mut [i32], places: [Coord; 14])
-    requires { ⌜ 42 ≤ length (now out) ⌝ }
+    requires { ⌜ 14 * 3 ≤ length (now out) ⌝ }
     ensures { λ _. ⌜ now (out .exit) ≡ fronted (triples places) (now (out .entry)) ⌝ }
 {
     let mut i = 0;
     while i < 14 {
-        put_place(out, 3 * i, places[i]);
+        put_place(out, PLACE_LENGTH * i, places[i]);
         i += 1;
     }
 }
 
 // The coordinates of 8 places, at the front.
 fn put_children(out: &mut [i32], places: [Coord; 8])
-    requires { ⌜ 24 ≤ length (now out) ⌝ }
+    requires { ⌜ 8 * 3 ≤ length (now out) ⌝ }
     ensures { λ _. ⌜ now (out .exit) ≡ fronted (triples places) (now (out .entry)) ⌝ }
 {
     let mut i = 0;
     while i < 8 {
-        put_place(out, 3 * i, places[i]);
+        put_place(out, PLACE_LENGTH * i, places[i]);
         i += 1;
     }
 }
@@ -109,7 +116,7 @@ pub extern "C" fn tishkolan_lattice_neighbors(
     match outcome {
         Outcome::Refused(r) => face::told(r),
         Outcome::Answered => {
-            if out.len() < 42 {
+            if out.len() < NEIGHBORS_LENGTH {
                 return face::told(Refusal::NoRoom(Room::Output));
             }
             put_neighbors(out, places);
@@ -129,7 +136,7 @@ pub extern "C" fn tishkolan_lattice_children(x: i32, y: i32, z: i32, out: &mut [
     match outcome {
         Outcome::Refused(r) => face::told(r),
         Outcome::Answered => {
-            if out.len() < 24 {
+            if out.len() < CHILDREN_LENGTH {
                 return face::told(Refusal::NoRoom(Room::Output));
             }
             put_children(out, places);
