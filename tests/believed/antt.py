@@ -155,13 +155,14 @@ class Source:
         while k < len(L):
             m = head.match(L[k])
             if m:
-                j, clause, ens, req = k, None, [], []
+                j, clause, ens, req, sign = k, None, [], [], []
                 while j < len(L) and L[j].strip() != '{':
                     s = L[j].strip()
                     if s.startswith('ensures'): clause = ens
                     elif s.startswith('requires') or s.startswith('decreases'): clause = req if s.startswith('requires') else []
                     if clause is not None and j > k: clause.append(s)
+                    elif clause is None: sign.append(s)
                     j += 1
-                self.functions.append(dict(name=m.group(3), pub=bool(m.group(1)), c=bool(m.group(2)), ensures='\n'.join(ens), requires='\n'.join(req)))
+                self.functions.append(dict(name=m.group(3), pub=bool(m.group(1)), c=bool(m.group(2)), ensures='\n'.join(ens), requires='\n'.join(req), signature=' '.join(sign)))
                 k = j
             k += 1
