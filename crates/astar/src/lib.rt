@@ -1,3 +1,3 @@
 // The limited A* search over lent bytes: from its start, through the pops of `expansion`, to a route in a buffer.
 pub mod call;
-pub mod way;
+mod way;

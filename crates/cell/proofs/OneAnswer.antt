@@ -7,6 +7,12 @@ use borrow.Fn.Kinds.{Dens, resT, endedOf}
 use Rattle.general.specs.OneAnswer.{OneAnswer}
 use Rattle.cell.proofs as here
 
+pub bits-of-one : OneAnswer 0 here.twos.bits_of.Kinds.ps here.twos.bits_of.Kinds.r here.twos.bits_of.Reads.Post
+bits-of-one κs a z z′ e e′ p q = p ∙ sym q
+
+pub of-bits-one : OneAnswer 0 here.twos.of_bits.Kinds.ps here.twos.of_bits.Kinds.r here.twos.of_bits.Reads.Post
+of-bits-one κs a z z′ e e′ p q = p ∙ sym q
+
 pub frame-one : OneAnswer 0 here.frame.Kinds.ps here.frame.Kinds.r here.frame.Reads.Post
 frame-one κs a z z′ e e′ p q = p ∙ sym q
 

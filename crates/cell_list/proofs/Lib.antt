@@ -1,4 +1,5 @@
 pub mod Theorems
+pub mod OneAnswer
 pub mod Listing
 pub mod Laws
 pub mod Writing

@@ -54,7 +54,7 @@ fn square_apart(a: i32, b: i32) -> f64
 }
 
 // The squares of x and y added, then that of z.
-pub fn squared_distance(a: Coord, b: Coord) -> f64
+fn squared_distance(a: Coord, b: Coord) -> f64
     requires { ⌜ differencesFit a b ≡ true ⌝ }
     ensures { λ r. ⌜ r ≡ squaredDistance a b ⌝ }
 {

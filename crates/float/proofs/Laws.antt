@@ -114,8 +114,6 @@ module _ (P : Float → Type 0) (finite : (s : Bool) (m : ℕ) (e : ℤ) → P (
   pub rounded : (f : Format) (s : Bool) (a b : ℕ) → P (round f s a b)
   rounded f s a b = rw (round-is f s a b) (at-units f s _ _)
 
--- ---- the rounded float equals the nearest whole number as a float: they differ at most in the sign of a zero
-
 -- ---- keys and patterns make each other again
 
 -- what holds of either branch of a test of two numbers

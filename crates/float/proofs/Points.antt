@@ -3,40 +3,32 @@ use mathlib.Core.Path.{_≡_, refl}
 use mathlib.Core.Bool.{true, false}
 use Prim.Native.Nat.{ℕ}
 use lib.Dec.{ltb}
-use lib.IntN.{negsuc}
-use lib.Ieee.{binary64, ofBits, toBits, round, lt, nanBits}
-use Rattle.float.specs.Round.{roundAway, wholeAway}
+use lib.IntN.{pos, negsuc}
+use lib.Ieee.{binary64, ofBits, lt, nanBits}
+use Rattle.float.specs.Round.{wholeAway}
 use Rattle.float.specs.TotalOrder.{equals, numbers, classes, nans, totalOrder, totalKey}
 
 -- ---- rounding, on patterns
-unfoldable pub rounded : ℕ → ℕ
-unfolding roundAway round ofBits toBits
-rounded b = toBits binary64 (roundAway (ofBits binary64 b))
-
-pub half : rounded 0x3FE0_0000_0000_0000 ≡ 0x3FF0_0000_0000_0000
-unfolding rounded
+pub half : wholeAway (ofBits binary64 0x3FE0_0000_0000_0000) ≡ pos 1
+unfolding wholeAway ofBits
 half = refl
 
-pub minus-half : rounded 0xBFE0_0000_0000_0000 ≡ 0xBFF0_0000_0000_0000
-unfolding rounded
+pub minus-half : wholeAway (ofBits binary64 0xBFE0_0000_0000_0000) ≡ negsuc 0
+unfolding wholeAway ofBits
 minus-half = refl
 
-pub two-and-a-half : rounded 0x4004_0000_0000_0000 ≡ 0x4008_0000_0000_0000
-unfolding rounded
+pub two-and-a-half : wholeAway (ofBits binary64 0x4004_0000_0000_0000) ≡ pos 3
+unfolding wholeAway ofBits
 two-and-a-half = refl
 
 -- the number next below a half, which the sum with a half would round up to one
-pub below-half : rounded 0x3FDF_FFFF_FFFF_FFFF ≡ 0
-unfolding rounded
+pub below-half : wholeAway (ofBits binary64 0x3FDF_FFFF_FFFF_FFFF) ≡ pos 0
+unfolding wholeAway ofBits
 below-half = refl
 
-pub minus-quarter : rounded 0xBFD0_0000_0000_0000 ≡ 0x8000_0000_0000_0000
-unfolding rounded
+pub minus-quarter : wholeAway (ofBits binary64 0xBFD0_0000_0000_0000) ≡ pos 0
+unfolding wholeAway ofBits
 minus-quarter = refl
-
-pub largest : rounded 0x7FEF_FFFF_FFFF_FFFF ≡ 0x7FEF_FFFF_FFFF_FFFF
-unfolding rounded
-largest = refl
 
 pub minus-two-and-a-half : wholeAway (ofBits binary64 0xC004_0000_0000_0000) ≡ negsuc 2
 unfolding wholeAway ofBits

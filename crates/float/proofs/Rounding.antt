@@ -1,21 +1,19 @@
 -- Rounding of a number above zero, N / D as a fraction: its double is exact, and half of one more than the double's whole part is the nearest whole number.
-use mathlib.Core.Path.{_≡_, refl, sym, ap, _∙_, subst}
+use mathlib.Core.Path.{_≡_, sym, ap, _∙_, subst}
 use Prim.Native.Nat.{ℕ, zero, suc, _+_, _-_, _*_, _/_, _%_, _^_, _≤_, _<_}
-use native.Mathlib.Nat.{mul-one, mul-assoc, mul-comm, mul-pos, div-div-eq-div-mul, add-div-right, div-lt-iff-lt-mul, lt-of-lt-of-le, le-of-lt, lt-of-not-le, not-le-of-lt, sub-add-cancel, zero-lt-suc}
+use native.Mathlib.Nat.{mul-one, mul-assoc, mul-comm, mul-pos, div-div-eq-div-mul, add-div-right, div-lt-iff-lt-mul, lt-of-lt-of-le, lt-of-not-le, not-le-of-lt, sub-add-cancel}
 use native.Mathlib.Omega.{arith}
 use mathlib.Core.Bool.{Bool, true, false, _&&_, true≢false, false≢true}
 use lib.IntN.{ℤ, pos, negsuc}
 use lib.Dec.{T, leb, ltb, eqb, leb→le, ltb→lt, lt→ltb, lit<, lit≤}
-use borrow.Author.Tests.{ltb-true, ltb-false}
+use borrow.Author.Tests.{ltb-true}
 use lib.Pow.{pow-add, pow-pos, pow-mono, pow-lt, shl-lt}
-use lib.Ieee.{Float, nan, inf, fin, binary64, up, down, round, mul, lt, fits, toUnsigned, ofInt}
-use lib.Ieee.Fits.{down-pos, and-l, and-r, round-fits}
+use lib.Ieee.{Float, nan, inf, fin, binary64, up, down, round, mul, lt, fits, toUnsigned}
+use lib.Ieee.Fits.{down-pos, and-l, and-r}
 use lib.Ieee.Exact.{HasValue, round-exact}
 use lib.Ieee.Nearest.{div-same}
-use lib.Ieee.Back.{whole-unique}
-use Rattle.float.specs.Round.{wholeOf, roundAway}
 use Rattle.float.specs.Inner.Round.{wholeSize}
-use Rattle.float.proofs.Laws.{so, digits-of, size-within, above-minus-one, cut-is}
+use Rattle.float.proofs.Laws.{so, digits-of, above-minus-one, cut-is}
 
 abbrev pub nought : Float
 nought = fin false 0 (pos 0)
@@ -38,11 +36,6 @@ module _ (s : Bool) (m : ℕ) (e : ℤ) (t : T (fits binary64 (fin s (suc m) e))
   down-within =
       leb→le (down e) (2 ^ 1074) (and-r (eqb (suc m % 2) 1 && ltb (suc m) 9007199254740992) (leb (down e) (2 ^ 1074))
       (and-l (eqb (suc m % 2) 1 && ltb (suc m) 9007199254740992 && leb (down e) (2 ^ 1074)) (ltb (suc m * up e) (2 ^ 1024 * down e)) t))
-
-  pub under-top : suc m * up e < 2 ^ 1024 * down e
-  unfolding fits
-  under-top =
-      ltb→lt (suc m * up e) (2 ^ 1024 * down e) (and-r (eqb (suc m % 2) 1 && ltb (suc m) 9007199254740992 && leb (down e) (2 ^ 1074)) (ltb (suc m * up e) (2 ^ 1024 * down e)) t)
 
 pub exponent-within : (k : ℕ) → 2 ^ suc k ≤ 2 ^ 1074 → suc k ≤ 1074
 exponent-within k l = lt-of-not-le (λ (g : 1074 ≤ k). not-le-of-lt (pow-lt (below g)) l)
@@ -149,57 +142,3 @@ doubled (fin false (suc m) e) t a b =
 
     more : (a : ℕ) → a < 9007199254740992 → a < 18446744073709551616
     more a h = omega arith
-
--- as a float the nearest whole number is the rounded number
-pub record Whole (x : Float) : Type 0 where
-  pub within : wholeSize x ≤ 4503599627370496
-  pub float : ofInt binary64 (pos (wholeSize x)) ≡ roundAway x
-
-pub whole : (x : Float) → lt nought x ≡ true → lt x coarse ≡ true → Whole x
-unfolding lt wholeSize ofInt roundAway
-whole nan a b = absurd (false≢true a)
-whole (inf true) a b = absurd (false≢true a)
-whole (inf false) a b = absurd (false≢true b)
-whole (fin true m e) a b = absurd (false≢true a)
-whole (fin false m e) a b = record {
-  within = size-within m e 4503599627370496 (le-of-lt (subst (λ (x : ℕ). x < 4503599627370496 * down e) (mul-one (m * up e)) (ltb→lt (m * up e * 1) (4503599627370496 * down e) (so b))));
-  float = refl;
-}
-
--- ---- what is whole already stays
-module _ (s : Bool) (m k : ℕ) (t : T (fits binary64 (fin s (suc m) (pos k)))) where
-  itself : wholeOf (suc m) (pos k) ≡ suc m * 2 ^ k
-  itself = ap (λ (x : ℕ). (x + 1) / 2) (mul-assoc 2 (suc m) (2 ^ k)) ∙ cut (suc m * 2 ^ k)
-    where
-      cut : (P : ℕ) → (2 * P + 1) / 2 ≡ P
-      cut P = omega arith
-
-  rounded-value : HasValue (round binary64 s (suc m * 2 ^ k) 1) s (suc m * 2 ^ k) 1
-  rounded-value =
-      let n = suc m in
-      let scaled : n * 2 ^ k * 2 ^ 1074 ≡ n * 2 ^ (k + 1074) = mul-assoc n (2 ^ k) (2 ^ 1074) ∙ ap (λ (x : ℕ). n * x) (sym (pow-add 2 k 1074)) in
-      round-exact binary64 s (n * 2 ^ k) 1 n (k + 1074) (lit< tt) (digits-of s (suc m) (pos k) t)
-      (subst (λ (x : ℕ). x < 2 ^ 2098) scaled (shl-lt {a = n * 2 ^ k} 1024 1074 (subst (λ (x : ℕ). n * 2 ^ k < x) (mul-one (2 ^ 1024)) (under-top s m (pos k) t))))
-      (scaled ∙ sym (mul-one (n * 2 ^ (k + 1074))))
-
-  pub whole-stays : roundAway (fin s (suc m) (pos k)) ≡ fin s (suc m) (pos k)
-  unfolding roundAway
-  whole-stays =
-      let n = suc m in
-      ap (λ (x : ℕ). round binary64 s x 1) itself
-      ∙ whole-unique binary64 (round binary64 s (n * 2 ^ k) 1) (fin s n (pos k)) s (n * 2 ^ k) (round-fits binary64 s (n * 2 ^ k) 1) t rounded-value (refl, mul-one (n * 2 ^ k) ∙ sym (mul-one (n * 2 ^ k)))
-
-pub large-stays : (x : Float) → T (fits binary64 x) → lt nought x ≡ true → lt x coarse ≡ false → x ≡ roundAway x
-unfolding lt roundAway
-large-stays nan t a b = absurd (false≢true a)
-large-stays (inf s) t a b = refl
-large-stays (fin true m e) t a b = absurd (false≢true a)
-large-stays (fin false zero e) t a b = absurd (not-above (down e) (up e) a)
-large-stays (fin false (suc m) (pos k)) t a b = sym (whole-stays false m k t)
-large-stays (fin false (suc m) (negsuc k)) t a b =
-    absurd (few (2 ^ suc k) (digits-of false (suc m) (negsuc k) t) (pow-mono {i = 1} {j = suc k} (zero-lt-suc k)) (ltb-false (suc m * 1 * 1) (4503599627370496 * 2 ^ suc k) b))
-  where
-    few : (P : ℕ) → suc m < 9007199254740992 → 2 ≤ P → 4503599627370496 * P ≤ suc m * 1 * 1 → ⊥
-    few P a b c = omega arith
-
--- ---- the rounding of a number is exact: it has the nearest whole number for its value

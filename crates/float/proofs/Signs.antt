@@ -1,46 +1,18 @@
--- Rounding and the sign: a number above zero, one below and a zero. The negative of a rounded number is the negative rounded, and a zero stays.
+-- Rounding and the sign: a number above zero, one below and a zero, each to the nearest whole number as an integer.
 use mathlib.Core.Path.{_≡_, refl, sym, ap, _∙_, subst}
-use Prim.Native.Nat.{ℕ, zero, suc, _+_, _*_, _^_, _≤_, _<_, zero-le}
+use Prim.Native.Nat.{ℕ, zero, suc, _+_, _*_, _≤_, _<_}
 use native.Mathlib.Nat.{mul-one, zero-mul, mul-pos, zero-lt-suc, le-of-eq}
 use native.Mathlib.Omega.{arith}
-use mathlib.Core.Bool.{Bool, true, false, not, cond, false≢true}
+use mathlib.Core.Bool.{true, false, false≢true}
 use lib.IntN.{ℤ, pos, negℤ}
-use lib.Dec.{T, ltb, eqb}
+use lib.Dec.{eqb}
 use borrow.Author.Tests.{ltb-true, ltb-false, eqb-true, lt-ltb}
-use lib.Ieee.{Float, nan, inf, fin, Format, binary64, prec, emax, low, up, down, odd, units, round, neg, lt, le, fits}
-use lib.Ieee.Fits.{round-is, round-fits, up-pos, down-pos}
-use lib.Ieee.Back.{round-whole, whole-unique}
-use Rattle.float.specs.Round.{wholeOf, roundAway, wholeAway}
+use lib.Ieee.{Float, nan, inf, fin, up, down, neg, lt, le}
+use lib.Ieee.Fits.{up-pos, down-pos}
+use Rattle.float.specs.Round.{wholeOf, wholeAway}
 use Rattle.float.specs.Inner.Round.{wholeSize}
 use Rattle.float.proofs.Laws.{at-most, size-within}
 use Rattle.float.proofs.Rounding.{nought, coarse}
-
-odd-neg : (d : ℕ) (s : Bool) (q k l : ℕ) → neg (odd d s q k l) ≡ odd d (not s) q k l
-unfolding odd neg
-odd-neg d s zero k l = refl
-odd-neg d s (suc q) k l = refl
-
-cond-neg : (b : Bool) (x y : Float) → neg (cond b x y) ≡ cond b (neg x) (neg y)
-cond-neg true x y = refl
-cond-neg false x y = refl
-
-units-neg : (f : Format) (s : Bool) (q k : ℕ) → neg (units f s q k) ≡ units f (not s) q k
-unfolding units neg
-units-neg f s q k =
-    cond-neg (ltb (q * 2 ^ k) (2 ^ (low f + suc (emax f)))) (odd (suc (prec f)) s q k (low f)) (inf s)
-    ∙ ap (λ (x : Float). cond (ltb (q * 2 ^ k) (2 ^ (low f + suc (emax f)))) x (inf (not s))) (odd-neg (suc (prec f)) s q k (low f))
-
-round-neg : (f : Format) (s : Bool) (a b : ℕ) → neg (round f s a b) ≡ round f (not s) a b
-round-neg f s a b = ap neg (round-is f s a b) ∙ units-neg f s _ _ ∙ sym (round-is f (not s) a b)
-
--- the rounding of a negative is the negative of the rounding of its size
-pub away-neg : (x : Float) → neg (roundAway (neg x)) ≡ roundAway x
-unfolding neg roundAway
-away-neg nan = refl
-away-neg (inf true) = refl
-away-neg (inf false) = refl
-away-neg (fin true m e) = round-neg binary64 false (wholeOf m e) 1
-away-neg (fin false m e) = round-neg binary64 true (wholeOf m e) 1
 
 -- ---- below zero
 not-below : (m : ℕ) (e : ℤ) → lt (fin false m e) nought ≡ true → ⊥
@@ -79,16 +51,6 @@ negative-size m e h = none (suc m * up e) (down e) (mul-pos (zero-lt-suc m) (up-
   where
     none : (N D : ℕ) → 0 < N → N * 1 + 0 * D ≤ 0 → ⊥
     none N D a b = omega arith
-
-pub zero-stays : (x : Float) → T (fits binary64 x) → lt nought x ≡ false → lt x nought ≡ false → x ≡ roundAway x
-unfolding lt roundAway
-zero-stays nan t a b = refl
-zero-stays (inf s) t a b = refl
-zero-stays (fin s zero e) t a b =
-    whole-unique binary64 (fin s 0 e) (round binary64 s 0 1) s 0 t (round-fits binary64 s 0 1) (refl, mul-one (0 * up e) ∙ zero-mul (up e) ∙ sym (zero-mul (down e))) (round-whole binary64 s 0 zero-le)
-    ∙ ap (λ (n : ℕ). round binary64 s n 1) (sym (zero-size e))
-zero-stays (fin false (suc m) e) t a b = absurd (positive-size m e (ltb-false (0 * down e) (suc m * up e * 1) a))
-zero-stays (fin true (suc m) e) t a b = absurd (negative-size m e (ltb-false 0 (suc m * up e * 1 + 0 * down e) b))
 
 -- ---- the nearest whole number as an integer
 pub integer-above : (x : Float) → lt nought x ≡ true → pos (wholeSize x) ≡ wholeAway x

@@ -3,9 +3,9 @@
 ghost use mathlib.Core.Path.{_≡_};
 ghost use mathlib.Core.Bool.{true, false};
 ghost use lib.IntN.{pos};
-ghost use lib.Ieee.{binary64, fin, nanBits, ofBits, toBits, add, mul, lt, le};
+ghost use lib.Ieee.{binary64, fin, nanBits, ofBits, toBits, lt, le};
 ghost use Rattle.float.specs.Inner.Round.{wholeSize};
-ghost use Rattle.float.specs.Round.{roundAway, wholeAway};
+ghost use Rattle.float.specs.Round.{wholeAway};
 ghost use Rattle.float.specs.TotalOrder.{totalKey, bitsOfKey};
 
 // The one pattern that is written for a NaN.
@@ -46,45 +46,6 @@ pub fn bits(x: f64) -> u64
     f64::to_bits(x)
 }
 
-// The sum of two patterns' numbers.
-pub fn plus(a: u64, b: u64) -> u64
-    ensures { λ r. ⌜ r ≡ toBits binary64 (add binary64 (ofBits binary64 a) (ofBits binary64 b)) ⌝ }
-{
-    if is_nan(a) {
-        return NAN;
-    }
-    if is_nan(b) {
-        return NAN;
-    }
-    bits(value(a) + value(b))
-}
-
-// The product of two patterns' numbers.
-pub fn times(a: u64, b: u64) -> u64
-    ensures { λ r. ⌜ r ≡ toBits binary64 (mul binary64 (ofBits binary64 a) (ofBits binary64 b)) ⌝ }
-{
-    if is_nan(a) {
-        return NAN;
-    }
-    if is_nan(b) {
-        return NAN;
-    }
-    bits(value(a) * value(b))
-}
-
-// Whether the first pattern's number is below the second's. No NaN is below anything, nor above it.
-pub fn less(a: u64, b: u64) -> bool
-    ensures { λ r. ⌜ r ≡ lt (ofBits binary64 a) (ofBits binary64 b) ⌝ }
-{
-    if is_nan(a) {
-        return false;
-    }
-    if is_nan(b) {
-        return false;
-    }
-    value(a) < value(b)
-}
-
 // Two to the power of a resolution: the exponent's field alone.
 pub fn power_of_two(resolution: u8) -> f64
     ensures { λ r. ⌜ r ≡ fin false 1 (pos resolution) ⌝ }
@@ -98,31 +59,6 @@ fn whole_size(x: f64) -> u64
     ensures { λ r. ⌜ r ≡ wholeSize x ⌝ }
 {
     (std::num::truncating_f64_to_u64(x * 2.0) + 1) / 2
-}
-
-// A number above zero, or the infinity, rounded: from 2^52 on every number is whole.
-fn round_above_zero(x: f64) -> f64
-    requires { ⌜ lt (fin false 0 (pos 0)) x ≡ true ⌝ }
-    ensures { λ r. ⌜ r ≡ roundAway x ⌝ }
-{
-    if x < 4503599627370496.0 {
-        whole_size(x) as f64
-    } else {
-        x
-    }
-}
-
-// A float rounded to a whole number, halves away from zero. A zero keeps its sign.
-pub fn round_away(x: f64) -> f64
-    ensures { λ r. ⌜ r ≡ roundAway x ⌝ }
-{
-    if x > 0.0 {
-        return round_above_zero(x);
-    }
-    if x < 0.0 {
-        return -round_above_zero(-x);
-    }
-    x
 }
 
 // The whole number nearest to a number from -2^30 to 2^30, halves away from zero.

@@ -6,6 +6,9 @@ use Rattle.lattice.proofs as here
 pub opposite-one : OneAnswer 0 here.opposite.Kinds.ps here.opposite.Kinds.r here.opposite.Reads.Post
 opposite-one κs a z z′ e e′ p q = p ∙ sym q
 
+pub absolute-one : OneAnswer 0 here.absolute.Kinds.ps here.absolute.Kinds.r here.absolute.Reads.Post
+absolute-one κs a z z′ e e′ p q = p ∙ sym q
+
 pub is-valid-lattice-point-one : OneAnswer 0 here.is_valid_lattice_point.Kinds.ps here.is_valid_lattice_point.Kinds.r here.is_valid_lattice_point.Reads.Post
 is-valid-lattice-point-one κs a z z′ e e′ p q = p ∙ sym q
 

@@ -91,7 +91,7 @@ fn joined(m: u64, s: u64) -> f64
 }
 
 // The f64 nearest to the root of n, which is moved up to 63 or 64 digits, by an even number of them.
-pub fn whole_root(n: u64) -> f64
+fn whole_root(n: u64) -> f64
     requires { ⌜ 1 ≤ n ⌝ }
     ensures { λ r. ⌜ r ≡ rootWhole n ⌝ }
 {

@@ -1,4 +1,4 @@
--- The whole number nearest to a float's size, which `round_away` works out: for its contract inside. Definitions only.
+-- The whole number nearest to a float's size, which `whole_size` works out: for its contract inside. Definitions only.
 use Prim.Native.Nat.{ℕ}
 use lib.Ieee.{Float, nan, inf, fin}
 use Rattle.float.specs.Round.{wholeOf}
