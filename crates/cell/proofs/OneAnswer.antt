@@ -1,10 +1,7 @@
 -- Two answers that meet a public function's contract agree, and so does what they leave in lent memory.
-use mathlib.Core.Path.{_≡_, sym, _∙_}
-use contract.Lifetimes.{Lfts}
-use denote.Ref.{now}
-use denote.Triple.Clauses.{AtExit}
-use borrow.Fn.Kinds.{Dens, resT, endedOf}
-use Rattle.general.specs.OneAnswer.{OneAnswer}
+use mathlib.Core.Path.{sym, _∙_}
+use denote.Ref.{at-last}
+use Rattle.general.specs.OneAnswer.{OneAnswer, OneExit}
 use Rattle.cell.proofs as here
 
 pub bits-of-one : OneAnswer 0 here.twos.bits_of.Kinds.ps here.twos.bits_of.Kinds.r here.twos.bits_of.Reads.Post
@@ -97,8 +94,5 @@ read-at-one κs a z z′ e e′ p q = p ∙ sym q
 pub from-bytes-one : OneAnswer 1 here.from_bytes.Kinds.ps here.from_bytes.Kinds.r here.from_bytes.Reads.Post
 from-bytes-one κs a z z′ e e′ p q = p ∙ sym q
 
--- the arguments decide what stands in the lent bytes
-pub write-at-one :
-    (κs : Lfts 1) (a : Dens κs here.write_at.Kinds.ps) (z z′ : resT here.write_at.Kinds.r κs .Denot) (e e′ : AtExit (endedOf 1 here.write_at.Kinds.ps here.write_at.Kinds.r) κs)
-    → here.write_at.Reads.Post κs a z e → here.write_at.Reads.Post κs a z′ e′ → now (e .0) ≡ now (e′ .0)
-write-at-one κs a z z′ e e′ p q = p ∙ sym q
+pub write-at-exit : OneExit 1 here.write_at.Kinds.ps here.write_at.Kinds.r here.write_at.Reads.Post
+write-at-exit κs a z z′ last last′ p q = λ i. (at-last (a .0) ((p ∙ sym q) i), a .1)
