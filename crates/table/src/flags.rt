@@ -1,16 +1,8 @@
-// The flags of a cell: the bits of a 32-bit word. Only BLOCKED keeps a cell from being entered.
+// The flags of a cell: the bits of a 32-bit word. Only BLOCKED keeps a cell from being entered; the other names are given to users, in include/tishkolan.h.
 ghost use mathlib.Core.Path.{_≡_};
 ghost use Rattle.table.specs.Flags.{hasFlag, withFlag, withoutFlag, isBlocked};
 
-pub const NONE: u32 = 0;
-
-pub const BLOCKED: u32 = 1;
-
-pub const NO_FLY: u32 = 2;
-
-pub const WATER: u32 = 4;
-
-pub const BOUNDARY: u32 = 8;
+const BLOCKED: u32 = 1;
 
 // Whether any of a flag's bits is set.
 pub fn has_flag(bits: u32, flag: u32) -> bool
