@@ -1,5 +1,5 @@
 //! Finds libtishkolan.a: in the folder that TISHKOLAN_LIBRARY_DIR names, else where pkg-config says
-//! it was installed, else in target/staticlib of this repository.
+//! it was installed, else in target/staticlib of this repository, where there is one for each machine.
 
 use std::path::{Path, PathBuf};
 use std::process::Command;
@@ -11,16 +11,13 @@ fn main() {
     println!("cargo:rerun-if-env-changed=TISHKOLAN_LIBRARY_DIR");
     println!("cargo:rerun-if-env-changed=PKG_CONFIG_PATH");
     println!("cargo:rerun-if-env-changed=PKG_CONFIG_LIBDIR");
-    if std::env::var("CARGO_CFG_TARGET_ARCH").as_deref() != Ok("x86_64") {
-        println!("cargo:warning={ARCHIVE} is x86-64 code: for this target the crate is empty and its tests are skipped");
-        return;
-    }
+    let machine = std::env::var("CARGO_CFG_TARGET_ARCH").unwrap_or_default();
     let folder = match std::env::var_os("TISHKOLAN_LIBRARY_DIR") {
         Some(named) => there(PathBuf::from(named), "TISHKOLAN_LIBRARY_DIR names a folder without it"),
         None => installed().unwrap_or_else(|| {
             there(
-                Path::new(env!("CARGO_MANIFEST_DIR")).join("../target/staticlib"),
-                "TISHKOLAN_LIBRARY_DIR is not set, pkg-config does not know tishkolan, and `rt staticlib tishkolan` has not been run",
+                Path::new(env!("CARGO_MANIFEST_DIR")).join("../target/staticlib").join(machine),
+                "TISHKOLAN_LIBRARY_DIR is not set, pkg-config does not know tishkolan, and ./library has not been run",
             )
         }),
     };

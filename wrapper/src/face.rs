@@ -101,6 +101,8 @@ pub struct SearchAnswer {
 // Calls that take numbers alone.
 #[rustfmt::skip]
 unsafe extern "C" {
+    pub safe fn tishkolan_version() -> u32;
+
     pub safe fn tishkolan_square_root(bits: u64) -> BitsAnswer;
 
     pub safe fn tishkolan_parity(x: i32, y: i32, z: i32) -> NumberAnswer;

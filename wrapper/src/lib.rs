@@ -1,4 +1,3 @@
-#![cfg(target_arch = "x86_64")]
 //! Tishkolan for Rust: cells of a body-centred cubic lattice, layers of what is kept of them, survey
 //! files, rings, lines, the route checker and the search.
 //!
@@ -8,9 +7,9 @@
 //! the buffers of answers. A call answers, or refuses with a [`Refusal`], for all values of its
 //! arguments, and it ends.
 //!
-//! The library is x86-64 code; for another target the crate is empty. The archive libtishkolan.a is
-//! looked for in the folder that `TISHKOLAN_LIBRARY_DIR` names, then where `pkg-config` says, then in
-//! target/staticlib of the repository.
+//! The library is there for x86-64 and for 64-bit Arm. The archive libtishkolan.a is looked for in the
+//! folder that `TISHKOLAN_LIBRARY_DIR` names, then where `pkg-config` says, then in target/staticlib of
+//! the repository, where there is one for each machine.
 //!
 //! ```
 //! use tishkolan::{route_verdict, Cell, Claim, FlagLayer, Flags, Point, Refusal, Rule, Verdict};
@@ -51,3 +50,12 @@ pub use refusal::{Refusal, Room};
 pub use route::{route_choice, route_verdict, Choice, Claim, Rule, Verdict};
 pub use search::{astar, astar_with_limit, Route, SearchWorkspace};
 pub use survey::{load_survey, survey_bytes, write_survey};
+
+/// The version of the archive that is linked: 1,000,000 times its major number, 1,000 times its minor one, and its patch.
+///
+/// ```
+/// assert_eq!(tishkolan::version(), 2_000); // 0.2.0
+/// ```
+pub fn version() -> u32 {
+    face::tishkolan_version()
+}

@@ -1,5 +1,4 @@
 //! Each call once at least, where it answers, and that no call of the header is missing.
-#![cfg(target_arch = "x86_64")]
 
 use std::cmp::Ordering;
 use std::collections::BTreeSet;
@@ -28,6 +27,15 @@ fn functions(text: &str) -> BTreeSet<String> {
         .filter(|name| name.starts_with("tishkolan_"))
         .map(String::from)
         .collect()
+}
+
+#[test]
+fn the_version() {
+    let parts = env!("CARGO_PKG_VERSION").split('.');
+    let number = parts.fold(0, |number, part| {
+        1_000 * number + part.parse::<u32>().unwrap()
+    });
+    assert_eq!(version(), number);
 }
 
 #[test]

@@ -1,5 +1,4 @@
 //! The known points of the specification, through this crate.
-#![cfg(target_arch = "x86_64")]
 
 use tishkolan::*;
 

@@ -1,6 +1,5 @@
 //! Each refusal that can be provoked through this crate, and that it leaves what was lent.
 //! (Not BadRule: a `Rule` is one of the two. Not BadLayer but by `Layer::over`.)
-#![cfg(target_arch = "x86_64")]
 
 use tishkolan::*;
 

@@ -8,3 +8,4 @@ pub mod Cells
 pub mod LayerAnswers
 pub mod Points
 pub mod Terms
+pub mod Version

@@ -17,6 +17,11 @@ module _ {A : Type 0} {t t′ : RefusalTold} {l l′ : List A} {f : Filled A} (p
   pub same-out : l ≡ l′
   same-out = ap (λ (g : Filled A). g .out) (p ∙ sym q)
 
+-- ---- the version
+
+pub version-one : OneAnswer 0 here.version.tishkolan_version.Kinds.ps here.version.tishkolan_version.Kinds.r here.version.tishkolan_version.Reads.Post
+version-one κs a z z′ e e′ p q = p ∙ sym q
+
 -- ---- points
 
 pub square-root-one : OneAnswer 0 here.points.tishkolan_square_root.Kinds.ps here.points.tishkolan_square_root.Kinds.r here.points.tishkolan_square_root.Reads.Post

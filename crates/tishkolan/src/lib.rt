@@ -9,3 +9,4 @@ pub mod rings;
 pub mod routes;
 pub mod searches;
 pub mod surveys;
+pub mod version;
