@@ -1,8 +1,7 @@
 /* Makes the calls that the program compare asks for, and hands back all that they say.
  *
- * compare is Rust on this machine; the library is x86-64 code, which another machine can only
- * emulate. So the library is linked here, in C and through its own header, and the two talk
- * through pipes. Numbers are little-endian. A batch is its length in bytes (4) and its requests:
+ * compare is Rust on this machine; the library may be the other machine's, in an emulator. So the
+ * library is linked here, in C and through its own header, and the two talk through pipes. Numbers are little-endian. A batch is its length in bytes (4) and its requests:
  *
  *   call (1), length of the first cell (1), of the second (1), fill (1),
  *   length of the buffer in elements (2), 1 for NULL where a length is 0 (1), 0 (1),

@@ -258,10 +258,6 @@ pub fn run<R: Asked>(
                 &format!("there is no {linked}; tests/run builds it"),
             );
         }
-        // The library is x86-64 code.
-        if cfg!(not(target_arch = "x86_64")) {
-            command.extend(["qemu-x86_64", "-L", "/usr/x86_64-linux-gnu"].map(String::from));
-        }
         command.push(linked.to_string());
     }
     println!("seed {seed}");

@@ -34,6 +34,7 @@ use compare::layers::calls::{Call, Of, Request};
 use compare::layers::expected::expected;
 use compare::lent::Called;
 use compare::random::Random;
+use compare::side_by_side::Asked;
 
 type Cell = [u8; 16];
 
@@ -60,12 +61,13 @@ impl Table {
     }
 }
 
-/// The three tables as they stand, and the records made so far.
+/// The three tables as they stand, the records made so far, and the calls that they are about.
 struct List {
     flags: Table,
     values: Table,
     coarse: Table,
     bytes: Vec<u8>,
+    calls: Vec<u8>,
 }
 
 impl List {
@@ -86,6 +88,7 @@ impl List {
             Call::Clear(_) => Request::new(call, &[], &[&table.bytes]),
             _ => Request::new(call, &[count], &[&table.bytes, &cell]),
         };
+        request.send(&mut self.calls);
         let answer = expected(&request);
         let [first, second, third, ..] = answer.values;
         let (found, said, count) = match call {
@@ -135,11 +138,13 @@ impl List {
             .into_iter()
             .chain(kept.flat_map(|record| record[..16].to_vec()))
             .collect();
-        let answer = expected(&Request::new(
+        let request = Request::new(
             Call::Aggregate,
             &[self.values.count, how.into()],
             &[&self.values.bytes, &list],
-        ));
+        );
+        request.send(&mut self.calls);
+        let answer = expected(&request);
         let mut record = [0; RECORD];
         record[0] = Call::Aggregate.number();
         record[1] = how;
@@ -153,11 +158,13 @@ impl List {
     }
 
     fn rollup(&mut self, how: u8) {
-        let answer = expected(&Request::new(
+        let request = Request::new(
             Call::Rollup,
             &[self.values.count, how.into(), self.coarse.count],
             &[&self.values.bytes, &self.coarse.bytes],
-        ));
+        );
+        request.send(&mut self.calls);
+        let answer = expected(&request);
         if answer.refusal.number != 0 {
             let untouched = self.coarse.count == 0 && self.coarse.check_number() == 0;
             assert!(untouched, "a rollup is refused over a table that is in use");
@@ -350,13 +357,14 @@ fn rollups(list: &mut List) {
     list.empty_coarse();
 }
 
-/// All records, in order.
-pub fn records() -> Vec<u8> {
+/// How many records there are, all of them in order, and their calls.
+pub fn records() -> (usize, Vec<u8>, Vec<u8>) {
     let mut list = List {
         flags: Table::new(Of::Flags),
         values: Table::new(Of::Values),
         coarse: Table::new(Of::Values),
         bytes: Vec::new(),
+        calls: Vec::new(),
     };
     for of in Of::BOTH {
         fill(&mut list, of);
@@ -364,5 +372,5 @@ pub fn records() -> Vec<u8> {
     }
     aggregates(&mut list);
     rollups(&mut list);
-    list.bytes
+    (list.bytes.len() / RECORD, list.bytes, list.calls)
 }

@@ -2,6 +2,8 @@
 //! No library is involved, and the files are the same each time.
 //!
 //!     vectors [FOLDER]      answers.bin, layers.bin, paths.bin and searches.bin, in crates/replay/data unless named
+//!     vectors FOLDER calls  answers.calls, .. there instead: the calls of each list in one batch, as the programs of
+//!                           compare/*.c take it, so that two archives can be asked the same
 //!
 //! `layers.bin` is described in layers.rs, `paths.bin` in paths.rs, `searches.bin` in searches.rs. `answers.bin` is records of 64 bytes, at most 1,000, all numbers big-endian:
 //!
@@ -52,6 +54,7 @@ mod searches;
 use compare::calls::{Call, Parameter, Request};
 use compare::expected::{expected, quiet, Answer};
 use compare::random::Random;
+use compare::side_by_side::Asked;
 
 const RECORD: usize = 64;
 const MIN: i64 = i32::MIN as i64;
@@ -59,14 +62,16 @@ const MAX: i64 = i32::MAX as i64;
 
 type Point = [i64; 3];
 
-/// The records made so far.
+/// The records made so far, and the calls that they are about.
 struct List {
     bytes: Vec<u8>,
+    calls: Vec<u8>,
 }
 
 impl List {
     /// One record, or one for each element of a listed answer.
     fn add(&mut self, request: Request) {
+        request.send(&mut self.calls);
         let answer = expected(&request);
         let elements = match request.call {
             Call::LatticeNeighbors | Call::CellNeighbors if answer.refusal.number == 0 => 14,
@@ -81,6 +86,7 @@ impl List {
 
     /// One element only of a listed answer.
     fn add_element(&mut self, request: Request, index: usize) {
+        request.send(&mut self.calls);
         let record = record(&request, &expected(&request), index);
         self.bytes.extend(record);
     }
@@ -573,36 +579,49 @@ fn cells(list: &mut List) {
     }
 }
 
-/// Writes one list that is nothing but records, of which there are at most so many.
-fn write(folder: &str, name: &str, bytes: &[u8], most: usize) {
-    write_records(folder, name, bytes, bytes.len() / RECORD, most);
-}
-
-/// Writes one list, of records that are at most so many.
-fn write_records(folder: &str, name: &str, bytes: &[u8], records: usize, most: usize) {
+/// Writes a file.
+fn write(folder: &str, name: &str, bytes: &[u8]) {
     let file = format!("{folder}/{name}");
-    assert!(records <= most, "{records} records do not fit the format");
     if let Err(error) = std::fs::write(&file, bytes) {
         eprintln!("vectors: {file}: {error}");
         std::process::exit(2);
     }
-    println!("{file}: {records} records");
+    println!("{file}: {} bytes", bytes.len());
 }
 
 fn main() {
-    let folder = std::env::args()
-        .nth(1)
+    let mut words = std::env::args().skip(1);
+    let folder = words
+        .next()
         .unwrap_or_else(|| "crates/replay/data".to_string());
+    let calls = words.next().as_deref() == Some("calls");
     quiet();
-    let mut list = List { bytes: Vec::new() };
+    let mut list = List {
+        bytes: Vec::new(),
+        calls: Vec::new(),
+    };
     roots(&mut list);
     lattice(&mut list);
     snaps(&mut list);
     distances(&mut list);
     cells(&mut list);
-    write(&folder, "answers.bin", &list.bytes, 1000);
-    write(&folder, "layers.bin", &layers::records(), 400);
-    write(&folder, "paths.bin", &paths::records(), 100);
-    let (searches, count) = searches::records();
-    write_records(&folder, "searches.bin", &searches, count, 120);
+    let answers = (list.bytes.len() / RECORD, list.bytes, list.calls);
+    for (name, (records, bytes, batch), most) in [
+        ("answers", answers, 1000),
+        ("layers", layers::records(), 400),
+        ("paths", paths::records(), 100),
+        ("searches", searches::records(), 120),
+    ] {
+        assert!(records <= most, "{records} records do not fit the format");
+        if calls {
+            let length = u32::try_from(batch.len()).unwrap().to_le_bytes();
+            write(
+                &folder,
+                &format!("{name}.calls"),
+                &[&length[..], &batch].concat(),
+            );
+        } else {
+            write(&folder, &format!("{name}.bin"), &bytes);
+        }
+    }
 }

@@ -27,6 +27,7 @@ use compare::lent::Called;
 use compare::paths::calls::{Call, Request, KNOWN_BYTES};
 use compare::paths::limits::Around;
 use compare::paths::reading::{along, taken, Rooms};
+use compare::side_by_side::Asked;
 use oracle::id::CellID;
 
 type Cell = [u8; 16];
@@ -36,13 +37,15 @@ pub const MOST_CELL: usize = 17;
 const MOST_OUTPUT: usize = 3200;
 const MOST_WORKSPACE: usize = 8000;
 
-/// The records made so far.
+/// The records made so far, and the calls that they are about.
 struct List {
     bytes: Vec<u8>,
+    calls: Vec<u8>,
 }
 
 impl List {
     fn add(&mut self, request: Request) {
+        request.send(&mut self.calls);
         let answer = Call::expected(&request);
         let [first, second, output] = &request.buffers[..] else {
             unreachable!()
@@ -247,11 +250,14 @@ fn lines(list: &mut List) {
     list.line(&[], &[], 0);
 }
 
-/// All records, in order.
-pub fn records() -> Vec<u8> {
-    let mut list = List { bytes: Vec::new() };
+/// How many records there are, all of them in order, and their calls.
+pub fn records() -> (usize, Vec<u8>, Vec<u8>) {
+    let mut list = List {
+        bytes: Vec::new(),
+        calls: Vec::new(),
+    };
     answered(&mut list);
     refused(&mut list);
     lines(&mut list);
-    list.bytes
+    (list.bytes.len() / RECORD, list.bytes, list.calls)
 }

@@ -52,6 +52,7 @@ use compare::routes::limits::{at, laid, under, RULES};
 use compare::searches::calls::Call;
 use compare::searches::limits::{endless, rooms, Search};
 use compare::searches::reading::{went, Went};
+use compare::side_by_side::Asked;
 use oracle::id::CellID;
 
 const MOST_OUTPUT: usize = 512;
@@ -62,10 +63,11 @@ const MOST_FILE: usize = 65_536;
 /// The rooms for which the workspaces are long enough.
 const MOST: Rooms = rooms(400, 400, 32);
 
-/// The records made so far, and their bodies.
+/// The records made so far, their bodies, and the calls that they are about.
 struct List {
     records: Vec<[u8; RECORD]>,
     bodies: Vec<Vec<u8>>,
+    calls: Vec<u8>,
 }
 
 impl List {
@@ -74,6 +76,7 @@ impl List {
         for lent in &mut request.buffers[3..] {
             lent.fill(BEFORE);
         }
+        request.send(&mut self.calls);
         let answer = Call::expected(&request);
         let [start, goal, flags, known, waiting, output] = &request.buffers[..] else {
             unreachable!()
@@ -415,11 +418,12 @@ fn refused(list: &mut List) {
     }
 }
 
-/// All records with their bodies, and how many records there are.
-pub fn records() -> (Vec<u8>, usize) {
+/// How many records there are, all of them in order with their bodies, and their calls.
+pub fn records() -> (usize, Vec<u8>, Vec<u8>) {
     let mut list = List {
         records: Vec::new(),
         bodies: Vec::new(),
+        calls: Vec::new(),
     };
     open(&mut list);
     walled(&mut list);
@@ -428,6 +432,6 @@ pub fn records() -> (Vec<u8>, usize) {
     rooms_short(&mut list);
     no_path(&mut list);
     refused(&mut list);
-    let count = list.records.len();
-    (list.file(), count)
+    let calls = std::mem::take(&mut list.calls);
+    (list.records.len(), list.file(), calls)
 }
