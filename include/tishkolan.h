@@ -227,8 +227,8 @@ tishkolan_refusal tishkolan_lattice_children(int32_t x, int32_t y, int32_t z,
 tishkolan_coord_answer tishkolan_lattice_parent(int32_t x, int32_t y, int32_t z);
 
 /* The lattice point nearest to a physical point, given by the bits of its coordinates,
- * which are multiplied by 2^resolution first; an even point before an odd one that is as near.
- * OUT_OF_RANGE where a product is a NaN,
+ * which are multiplied by 2^resolution first. A tie goes to the even point; within a hair of a tie the
+ * rounding of doubles decides. OUT_OF_RANGE where a product is a NaN,
  * infinite, or above 2147483646 in magnitude. */
 tishkolan_coord_answer tishkolan_physical_to_lattice(uint64_t x, uint64_t y, uint64_t z,
                                                      uint8_t resolution);
