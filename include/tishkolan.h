@@ -228,8 +228,8 @@ tishkolan_coord_answer tishkolan_lattice_parent(int32_t x, int32_t y, int32_t z)
 
 /* The lattice point nearest to a physical point, given by the bits of its coordinates,
  * which are multiplied by 2^resolution first. A tie goes to the even point; within a hair of a tie the
- * rounding of doubles decides. OUT_OF_RANGE where a product is a NaN,
- * infinite, or above 2147483646 in magnitude. */
+ * rounding of doubles decides. OUT_OF_RANGE where a product is a NaN, infinite, or above 2147483646 in
+ * magnitude. */
 tishkolan_coord_answer tishkolan_physical_to_lattice(uint64_t x, uint64_t y, uint64_t z,
                                                      uint8_t resolution);
 
@@ -275,9 +275,8 @@ tishkolan_number_answer tishkolan_lattice_manhattan_distance(int32_t ax, int32_t
  *
  * A call that takes a cell of another length is BAD_LIST before anything else; one that
  * answers with cells is NO_ROOM 3, last of all, where out is shorter than its answer.
- * The cells of an answer are plain (exponent, flags and reserved are 0), but for two: the cell that
- * tishkolan_cell_new makes has the exponent and flags that it was given, and the ancestor at a cell's
- * own resolution is that cell, unchanged. */
+ * The cells of an answer are plain, but for two: the cell that tishkolan_cell_new makes has the exponent
+ * and flags that it was given, and the ancestor at a cell's own resolution is that cell, unchanged. */
 
 /* The cell of these fields, the exponent taken modulo 16, reserved 0. INVALID_PARITY. */
 tishkolan_refusal tishkolan_cell_new(uint8_t frame, uint8_t resolution,
@@ -301,7 +300,7 @@ tishkolan_coord_answer tishkolan_cell_lattice_coord(const uint8_t *cell, size_t 
 tishkolan_number_answer tishkolan_cell_compare(const uint8_t *first, size_t first_length,
                                                const uint8_t *second, size_t second_length);
 
-/* 1 where exponent, flags and reserved are 0, else 0. */
+/* 1 where the cell is plain, else 0. */
 tishkolan_number_answer tishkolan_cell_is_plain(const uint8_t *cell, size_t cell_length);
 
 /* The 14 neighbours, 224 bytes, in the order of tishkolan_lattice_neighbors. INVALID_PARITY;
@@ -309,8 +308,8 @@ tishkolan_number_answer tishkolan_cell_is_plain(const uint8_t *cell, size_t cell
 tishkolan_refusal tishkolan_cell_neighbors(const uint8_t *cell, size_t cell_length,
                                            uint8_t *out, size_t out_length);
 
-/* The 8 children, 128 bytes, in the order of tishkolan_lattice_children. NO_CHILDREN at resolution 255; INVALID_PARITY;
- * COORD_OVERFLOW as of tishkolan_lattice_children; NO_ROOM 3. */
+/* The 8 children, 128 bytes, in the order of tishkolan_lattice_children. NO_CHILDREN at resolution 255;
+ * INVALID_PARITY; COORD_OVERFLOW as of tishkolan_lattice_children; NO_ROOM 3. */
 tishkolan_refusal tishkolan_cell_children(const uint8_t *cell, size_t cell_length,
                                           uint8_t *out, size_t out_length);
 
@@ -321,8 +320,7 @@ tishkolan_refusal tishkolan_cell_parent(const uint8_t *cell, size_t cell_length,
 /* The ancestor at a resolution: NO_PARENT where that is finer than the cell's; the cell
  * itself, unchanged, at its own; else INVALID_PARITY, or the parent of the parent, as
  * often as it takes; NO_ROOM 3.
- * Time: one parent for each resolution in between, and so much stack: from 255 to 0
- * 46,000 bytes, the longest way. */
+ * Time and stack: so much for each resolution in between; from 255 to 0 46,000 bytes of stack. */
 tishkolan_refusal tishkolan_cell_ancestor(const uint8_t *cell, size_t cell_length,
                                           uint8_t resolution,
                                           uint8_t *out, size_t out_length);
@@ -527,7 +525,7 @@ tishkolan_bits_answer tishkolan_values_aggregate(const uint8_t *table, size_t ta
  * n plain cells come n/8 to n coarse ones. BAD_LAYER of the fine layer; OUT_OF_RANGE; HAS_NAN;
  * NO_ROOM 4. The answer's count is that of coarse: the new one, or where the call refuses coarse_count,
  * which is handed back and used for nothing else. coarse is not tested.
- * Time: the records of fine times their logarithm, and the zeroing of coarse.
+ * Time: the records of fine times their logarithm, and the zeroing of its arrays and of coarse.
  * Stack: 95,000 bytes. */
 tishkolan_count_answer tishkolan_values_rollup(const uint8_t *fine, size_t fine_length, size_t fine_count,
                                                uint32_t how,
@@ -582,7 +580,7 @@ typedef struct {
  * its records (its length) or too long (where it should end). Then NO_ROOM 4, by how many cells there
  * are, however often each is named: of the flags, then of the values.
  * TAKE BOTH COUNTS BACK, or the next verdict judges a part of the new survey: see layers.
- * Time: f log f and v log v, and the zeroing of the rest of both tables.
+ * Time: f log f and v log v, and the zeroing of its arrays and of the rest of both tables.
  * Stack: 66,000 bytes. */
 tishkolan_load_answer tishkolan_survey_load(const uint8_t *file, size_t file_length,
                                             uint8_t *flags, size_t flags_length, size_t flags_count,
@@ -635,10 +633,10 @@ tishkolan_length_answer tishkolan_survey_write(const uint8_t *flags, size_t flag
  * leaves int32_t; NO_ROOM 3.
  * There are two samples for each unit of the largest difference of a coordinate. One that would be above
  * 2147483646 in magnitude is skipped.
- * Time: the samples, however short the output; twice where it has less room than TISHKOLAN_LINE_CELLS.
- * It ends before the last sample only where a cell finds no room, and along the edge of the 32-bit
- * numbers every sample is skipped: such a line of two cells may take minutes. Bound the difference
- * before you call. */
+ * Time: all samples; where the output has less room than TISHKOLAN_LINE_CELLS all of them once more, to
+ * see whether the line fits, which ends early only where a cell finds no room. Along the edge of the
+ * 32-bit numbers every sample is skipped, so a line of two cells into an output of two may take minutes:
+ * bound the difference before you call. */
 tishkolan_count_answer tishkolan_trace_line(const uint8_t *start, size_t start_length,
                                             const uint8_t *end, size_t end_length,
                                             uint8_t *output, size_t output_length);
@@ -656,8 +654,9 @@ tishkolan_count_answer tishkolan_trace_line(const uint8_t *start, size_t start_l
  * BAD_WORKSPACE, before anything else, where a room is another number or the workspace is shorter
  * than TISHKOLAN_RING_BYTES(known); it leaves the workspace as it was. Every other answer or refusal
  * leaves all of the workspace zero, also behind those bytes.
- * Time: 14 looks among the known cells for each cell that is expanded, those at fewer than k steps, and
- * the zeroing of the whole workspace, however long you say that it is: lend what fits. */
+ * Time: 14 looks among the known cells, each along a chain that is short as a rule, for each cell that
+ * is expanded, those at fewer than k steps; and the zeroing of the whole workspace, however long you say
+ * that it is: lend what fits. */
 
 /* Waiting cells take no bytes of their own. */
 #define TISHKOLAN_RING_BYTES(known) ((size_t)44 * (known))
@@ -694,9 +693,10 @@ tishkolan_count_answer tishkolan_k_shell(const uint8_t *center, size_t center_le
 
 /* ---- the route checker.
  * A route is a list of cells, 16 bytes each; its cost is the sum of its steps as doubles, from 0.0,
- * in route order, and is claimed by its 64 bits: 2.0 for a step that keeps the parity, the double next
- * to the root of 3 for one that changes it. The verdict depends on what is handed to this very call and
- * on nothing else.
+ * in route order, and is claimed by its 64 bits: 2.0 for a step that keeps the parity, 1.7320508075688772
+ * for one that changes it, which are their lengths as tishkolan_cell_distance has them. Where you add
+ * them up, let no compiler change the order (-ffast-math). The verdict depends on what is handed to this
+ * very call and on nothing else.
  *
  * A WALL OF ONE PARITY CAN BE LEAPT: six of the 14 neighbours are two units away. With all cells of the
  * plane x = 10 blocked, which are all even, the step from (9, 1, 1) to (11, 1, 1) is accepted. Block two
@@ -713,7 +713,7 @@ enum {
     TISHKOLAN_ACCEPTED = 0,
     TISHKOLAN_EMPTY_ROUTE = 20,
     TISHKOLAN_WRONG_START = 21,
-    TISHKOLAN_NOT_A_NEIGHBOR = 22, /* a step to a cell that is not one of the 14 around the last one */
+    TISHKOLAN_NOT_A_NEIGHBOR = 22, /* a step to a cell that is not one of the 14 around the last one, plain as they are */
     TISHKOLAN_BLOCKED_CELL = 23,   /* a step into a blocked cell; the start itself is not tested */
     TISHKOLAN_WRONG_GOAL = 24,
     TISHKOLAN_WRONG_COST = 25
@@ -780,7 +780,7 @@ uint32_t tishkolan_route_choice(const uint8_t *sent, size_t sent_length,
  * not blocked in the flag layer (the start itself is not tested). Its route is one that
  * tishkolan_route_verdict accepts with the cost it names. That no route is shorter is not claimed.
  * It steps to plain cells of the start's frame and resolution alone, so another goal is never reached,
- * unless it is the start: the search goes on until its limit or its room ends.
+ * unless it is the start.
  *
  * It takes place in two workspaces that you lend, which may hold anything. You name the room for
  * known cells, which are all that it has seen and not found blocked, and for waiting entries; a cell
@@ -789,15 +789,15 @@ uint32_t tishkolan_route_choice(const uint8_t *sent, size_t sent_length,
  * its macro says; it leaves both as they were. Every other answer or refusal leaves all of both
  * zero, also behind those bytes.
  *
- * How much room: where e cells are closed, neither is ever more than 1 + 14 e. Measured in the open and
- * around walls: known cells 7 e for e = 10, 2.2 e for 400, 1.5 e for 3,000, 1.3 e for 13,000; waiting
- * entries fewer than known cells. So with twice as much known room as you expect cells to be closed, and
- * 100 more, and as much for waiting, NO_ROOM is rare; it changes nothing, so you can ask again with more.
+ * How much room: where e cells are closed, no more than 1 + 14 e are known, nor wait. Measured in the
+ * open and around walls: 71 known cells for e = 10, 857 for 392, 4,690 for 3,134, 16,923 for 13,059, and
+ * always fewer waiting entries than that; 2.5 e + 100 of each was enough. A search that is refused for
+ * NO_ROOM leaves out as it was: ask again with more.
  *
  * Time: the records in use, to test the layer; for each cell that is closed 14 looks among the known
- * cells, and for each neighbour that is new or reached at a lower cost a look in the flag layer and a
- * place in the heap of those that wait; the zeroing of both workspaces whole, however long you say that
- * they are: lend what fits.
+ * cells, as in rings, and for each neighbour that is new or reached at a lower cost a look in the flag
+ * layer, a root, and a place in the heap of those that wait, both by their logarithms; the zeroing of
+ * both workspaces whole, however long you say that they are: lend what fits.
  * Stack: 1,400 bytes. */
 
 #define TISHKOLAN_SEARCH_KNOWN_BYTES(known) ((size_t)44 * (known) + 64)
