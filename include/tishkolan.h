@@ -623,8 +623,9 @@ tishkolan_length_answer tishkolan_survey_write(const uint8_t *flags, size_t flag
 /* ---- lists of cells, 16 bytes each, at the front of a buffer. The count is how many they are, and 0
  * where the call refuses. */
 
-/* As many cells as a line can have, given the largest difference of a coordinate between its ends. Ends
- * that have marks, or another frame or resolution, take so many where the difference is 0 or 1. */
+/* No line has more cells than this, given the largest difference of a coordinate between its ends. As
+ * many it has between ends with marks, for their twins, where the difference is 0 or 1; between plain
+ * cells of one frame and resolution about one and a half for each unit was the most that was seen. */
 #define TISHKOLAN_LINE_CELLS(difference) (2 * (size_t)(difference) + 2)
 
 /* The cells along the line from start to end, both listed; equal ends are one cell, whatever their

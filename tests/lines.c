@@ -61,7 +61,7 @@ static int32_t larger(int32_t a, int32_t b)
     return a < b ? b : a;
 }
 
-/* The line has so many cells, which the header's macro is enough for; with room for one less it is refused. */
+/* How many cells a line has: the header's macro is enough for them, and with room for one less than they are it is refused. */
 static size_t takes(cell start, cell end, int32_t difference)
 {
     const size_t most = TISHKOLAN_LINE_CELLS(difference);
@@ -78,7 +78,6 @@ static void macros(void)
 {
     const cell zero = at(3, 0, 0, 0);
     cell start = zero, end = at(3, 1, 1, 1);
-    size_t most[DIFFERENCE + 1] = {0}; /* cells of a line between plain cells, by the difference */
 
     start.bytes[13] |= 0x10;
     end.bytes[13] |= 0x20;
@@ -90,13 +89,10 @@ static void macros(void)
             for (int32_t z = -DIFFERENCE; z <= DIFFERENCE; z++)
                 if ((x & 1) == (y & 1) && (x & 1) == (z & 1)) {
                     const int32_t difference = larger(larger(x < 0 ? -x : x, y < 0 ? -y : y), z < 0 ? -z : z);
-                    const size_t cells = takes(zero, at(3, x, y, z), difference);
 
-                    if (cells > most[difference])
-                        most[difference] = cells;
+                    /* Between plain cells of one frame and resolution fewer will do. */
+                    CHECK(takes(zero, at(3, x, y, z), difference) <= (size_t)(1 + 3 * difference / 2));
                 }
-    for (int i = 0; i <= DIFFERENCE; i++)
-        printf("lines: difference %d, at most %zu cells\n", i, most[i]);
 }
 
 int main(void)
