@@ -12,7 +12,6 @@ enum {
     CELL = TISHKOLAN_CELL_BYTES,
     FLAG_BYTES = TISHKOLAN_MOST_CELLS * TISHKOLAN_FLAG_RECORD,
     VALUE_BYTES = TISHKOLAN_MOST_CELLS * TISHKOLAN_VALUE_RECORD,
-    FILE_BYTES = 16 + FLAG_BYTES + VALUE_BYTES, /* of the longest survey */
     RESOLUTION = 2,   /* a unit of the lattice is 25 cm */
     KNOWN = 1024,     /* the rooms that the search is given */
     WAITING = 4096,
@@ -44,11 +43,22 @@ static void print_refusal(tishkolan_refusal why)
         printf(" %s", tishkolan_room_name(why.room));
 }
 
+/* Of calls that have no reason to refuse here: one that does ends the day. */
+static void must_answer(tishkolan_refusal said)
+{
+    if (said.number != TISHKOLAN_ANSWERED) {
+        print_refusal(said);
+        printf("\n");
+        exit(1);
+    }
+}
+
 /* ---- cells and routes */
 
 static void print_cell(const uint8_t *cell)
 {
     tishkolan_fields_answer at = tishkolan_cell_fields(cell, CELL);
+    must_answer(at.refusal);
     printf("(%d, %d, %d)", at.x, at.y, at.z);
 }
 
@@ -66,8 +76,11 @@ static double metres(uint64_t cost)
 static void extend(route *r, const uint8_t *cell)
 {
     double cost = tishkolan_double_of(r->cost);
-    if (r->count > 0)
-        cost += tishkolan_double_of(tishkolan_cell_distance(cell_of(r, r->count - 1), CELL, cell, CELL).bits);
+    if (r->count > 0) {
+        tishkolan_bits_answer step = tishkolan_cell_distance(cell_of(r, r->count - 1), CELL, cell, CELL);
+        must_answer(step.refusal);
+        cost += tishkolan_double_of(step.bits);
+    }
     memcpy(r->cells + CELL * r->count, cell, CELL);
     r->count++;
     r->cost = tishkolan_bits_of(cost);
@@ -96,21 +109,23 @@ static route back_from(const route *r, size_t here)
 /* What is kept of a cell; nothing is 0. */
 static uint32_t flags_of(const survey *held, const uint8_t *cell)
 {
-    return (uint32_t)tishkolan_flags_get(held->flags, sizeof held->flags, held->flag_count, cell, CELL).kept;
+    tishkolan_kept_answer got = tishkolan_flags_get(held->flags, sizeof held->flags, held->flag_count, cell, CELL);
+    must_answer(got.refusal);
+    return (uint32_t)got.kept;
 }
 
 static size_t count_blocked(const survey *held)
 {
     size_t blocked = 0;
-    for (size_t i = 1; i <= held->flag_count; i++)
-        blocked += tishkolan_is_blocked(held->flags[TISHKOLAN_FLAG_RECORD * i - 1]); /* the last byte has bits 0 to 7 */
+    for (size_t i = 0; i < held->flag_count; i++)
+        blocked += tishkolan_is_blocked(tishkolan_flags_at(held->flags, i));
     return blocked;
 }
 
 /* Loads a survey in place of the one held. Where it is refused, that one stays, whole. */
 static void load(survey *held, const char *path)
 {
-    static uint8_t file[FILE_BYTES + 1]; /* a file that is too long is refused, not cut */
+    static uint8_t file[TISHKOLAN_FILE_BYTES + 1]; /* a file that is too long is refused, not cut */
     FILE *in = fopen(path, "rb");
     if (in == NULL) {
         perror(path);
@@ -121,7 +136,7 @@ static void load(survey *held, const char *path)
 
     tishkolan_load_answer loaded = tishkolan_survey_load(
         file, length, held->flags, sizeof held->flags, held->flag_count, held->values, sizeof held->values, held->value_count);
-    held->flag_count = (size_t)loaded.flags;
+    held->flag_count = (size_t)loaded.flags; /* both, whatever it said */
     held->value_count = (size_t)loaded.values;
     printf("  survey of %zu bytes: ", length);
     if (loaded.refusal.number == TISHKOLAN_ANSWERED) {
@@ -250,13 +265,9 @@ static void turn(survey *held, const route *sent, size_t here)
 
 /* ---- the evening */
 
-/* The value of a record: 64 bits, big-endian, behind its cell. */
 static double value_at(const uint8_t *plates, size_t i)
 {
-    uint64_t bits = 0;
-    for (size_t j = CELL; j < TISHKOLAN_VALUE_RECORD; j++)
-        bits = bits << 8 | plates[TISHKOLAN_VALUE_RECORD * i + j];
-    return tishkolan_double_of(bits);
+    return tishkolan_double_of(tishkolan_values_at(plates, i));
 }
 
 static size_t thinnest(const uint8_t *plates, size_t count)
@@ -277,11 +288,13 @@ static void print_renewals(uint8_t *plates, size_t count)
         if (!(value < renewal))
             return;
         uint8_t cell[CELL];
-        memcpy(cell, plates + TISHKOLAN_VALUE_RECORD * i, CELL);
+        memcpy(cell, tishkolan_values_cell_at(plates, i), CELL);
         printf("    plate ");
         print_cell(cell);
         printf(": %.1f mm\n", value);
-        count = (size_t)tishkolan_values_remove(plates, VALUE_BYTES, count, cell, CELL).count;
+        tishkolan_kept_answer removed = tishkolan_values_remove(plates, VALUE_BYTES, count, cell, CELL);
+        must_answer(removed.refusal);
+        count = (size_t)removed.count;
     }
 }
 
@@ -311,8 +324,8 @@ int main(int argc, char **argv)
         fprintf(stderr, "usage: day MORNING RELOAD\n");
         return 2;
     }
-    tishkolan_cell_from_coords(0, RESOLUTION, 4, 12, 8, hatch, CELL);
-    tishkolan_cell_from_coords(0, RESOLUTION, 24, 4, 2, plate, CELL);
+    must_answer(tishkolan_cell_from_coords(0, RESOLUTION, 4, 12, 8, hatch, CELL));
+    must_answer(tishkolan_cell_from_coords(0, RESOLUTION, 24, 4, 2, plate, CELL));
 
     printf("Morning: the survey is loaded.\n");
     load(&held, argv[1]);

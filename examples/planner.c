@@ -11,7 +11,6 @@ enum {
     CELL = TISHKOLAN_CELL_BYTES,
     FLAG_BYTES = TISHKOLAN_MOST_CELLS * TISHKOLAN_FLAG_RECORD,
     VALUE_BYTES = TISHKOLAN_MOST_CELLS * TISHKOLAN_VALUE_RECORD,
-    FILE_BYTES = 16 + FLAG_BYTES + VALUE_BYTES, /* of the longest survey */
     KNOWN = 1024, /* the rooms that the search is given */
     WAITING = 4096,
     MOST_CELLS = 256 /* of a route */
@@ -30,7 +29,7 @@ static void print_refusal(const char *what, tishkolan_refusal why)
 
 int main(int argc, char **argv)
 {
-    static uint8_t file[FILE_BYTES + 1]; /* one byte more: a file that is too long is refused, not cut */
+    static uint8_t file[TISHKOLAN_FILE_BYTES + 1]; /* one byte more: a file that is too long is refused, not cut */
     uint8_t start[CELL], goal[CELL];
 
     FILE *in = argc == 2 ? fopen(argv[1], "rb") : NULL;
@@ -49,8 +48,13 @@ int main(int argc, char **argv)
     }
     printf("survey: %zu cells with flags, %zu readings\n", (size_t)loaded.flags, (size_t)loaded.values);
 
-    tishkolan_cell_from_coords(0, 2, 4, 12, 8, start, CELL); /* below the hatch, in the aft bay */
-    tishkolan_cell_from_coords(0, 2, 24, 4, 2, goal, CELL);  /* at the end of the fore bay */
+    tishkolan_refusal made = tishkolan_cell_from_coords(0, 2, 4, 12, 8, start, CELL); /* below the hatch, in the aft bay */
+    if (made.number == TISHKOLAN_ANSWERED)
+        made = tishkolan_cell_from_coords(0, 2, 24, 4, 2, goal, CELL); /* at the end of the fore bay */
+    if (made.number != TISHKOLAN_ANSWERED) {
+        print_refusal("cell", made);
+        return 1;
+    }
     tishkolan_search_answer found = tishkolan_astar(
         start, CELL, goal, CELL, flags, sizeof flags, loaded.flags, TISHKOLAN_AVOIDING, KNOWN, WAITING,
         known, sizeof known, waiting, sizeof waiting, route, sizeof route);
@@ -60,7 +64,11 @@ int main(int argc, char **argv)
     }
     printf("route: %zu cells, cost %.3f, found after closing %zu cells\n", (size_t)found.cells, tishkolan_double_of(found.cost), (size_t)found.expansions);
     for (size_t i = 0; i < found.cells; i++) {
-        tishkolan_fields_answer cell = tishkolan_cell_fields(route + CELL * i, CELL);
+        tishkolan_coord_answer cell = tishkolan_cell_lattice_coord(route + CELL * i, CELL);
+        if (cell.refusal.number != TISHKOLAN_ANSWERED) {
+            print_refusal("route", cell.refusal);
+            return 1;
+        }
         printf("  (%d, %d, %d)\n", cell.x, cell.y, cell.z);
     }
 

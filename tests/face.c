@@ -14,6 +14,17 @@ static bool same(const uint8_t *bytes, cell expected)
     return memcmp(bytes, expected.bytes, CELL) == 0;
 }
 
+/* ---- the version */
+
+static void version(void)
+{
+    char words[40];
+
+    snprintf(words, sizeof words, "%d.%d.%d", TISHKOLAN_VERSION_MAJOR, TISHKOLAN_VERSION_MINOR, TISHKOLAN_VERSION_PATCH);
+    CHECK(strcmp(words, TISHKOLAN_VERSION) == 0);
+    CHECK(TISHKOLAN_VERSION_NUMBER == TISHKOLAN_VERSION_MAJOR * 1000000 + TISHKOLAN_VERSION_MINOR * 1000 + TISHKOLAN_VERSION_PATCH);
+}
+
 /* ---- square root */
 
 static void square_root(void)
@@ -122,6 +133,53 @@ static void lattice_parent(void)
     CHECK(mixed(parent.refusal, 0, 1, 0) && parent.x == 0 && parent.y == 0 && parent.z == 0);
 }
 
+/* Rounded down, of negatives too. */
+static int32_t half(int32_t number)
+{
+    return (number - (number & 1)) / 2;
+}
+
+static bool alone(int32_t one, int32_t other, int32_t third)
+{
+    return (one & 1) != (other & 1) && (other & 1) == (third & 1);
+}
+
+/* The header's rule for the parent, and its lists of neighbours and children, over all points near zero. */
+static void families(void)
+{
+    static const int32_t around[TISHKOLAN_NEIGHBORS][3] = {
+        {1, 1, 1}, {1, 1, -1}, {1, -1, 1}, {1, -1, -1}, {-1, 1, 1}, {-1, 1, -1}, {-1, -1, 1}, {-1, -1, -1},
+        {2, 0, 0}, {-2, 0, 0}, {0, 2, 0}, {0, -2, 0}, {0, 0, 2}, {0, 0, -2}};
+    static const int32_t below[TISHKOLAN_CHILDREN][3] = {
+        {0, 0, 0}, {2, 0, 0}, {0, 2, 0}, {0, 0, 2}, {1, 1, 1}, {1, 1, -1}, {1, -1, 1}, {1, -1, -1}};
+    int32_t near[42], children[24];
+    bool holds = true;
+
+    for (int32_t x = -9; x <= 9; x++)
+        for (int32_t y = -9; y <= 9; y++)
+            for (int32_t z = -9; z <= 9; z++) {
+                if ((x & 1) != (y & 1) || (x & 1) != (z & 1))
+                    continue;
+                holds &= answered(tishkolan_lattice_neighbors(x, y, z, near, 42));
+                for (int i = 0; i < TISHKOLAN_NEIGHBORS; i++)
+                    holds &= near[3 * i] == x + around[i][0] && near[3 * i + 1] == y + around[i][1] && near[3 * i + 2] == z + around[i][2];
+                holds &= answered(tishkolan_lattice_children(x, y, z, children, 24));
+                for (int i = 0; i < TISHKOLAN_CHILDREN; i++) {
+                    const int32_t *child = children + 3 * i;
+                    const tishkolan_coord_answer up = tishkolan_lattice_parent(child[0], child[1], child[2]);
+                    holds &= child[0] == 2 * x + below[i][0] && child[1] == 2 * y + below[i][1] && child[2] == 2 * z + below[i][2];
+                    holds &= answered(up.refusal) && up.x == x && up.y == y && up.z == z;
+                }
+                const int32_t a = half(x), b = half(y), c = half(z);
+                const tishkolan_coord_answer up = tishkolan_lattice_parent(x, y, z);
+                if ((x & 1) == 0)
+                    holds &= up.x == a - alone(a, b, c) && up.y == b - alone(b, a, c) && up.z == c - alone(c, a, b);
+                else
+                    holds &= up.x == a && up.y == b + ((b & 1) != (a & 1)) && up.z == c + ((c & 1) != (a & 1));
+            }
+    CHECK(holds);
+}
+
 static tishkolan_coord_answer snap(double x, double y, double z, uint8_t resolution)
 {
     return tishkolan_physical_to_lattice(tishkolan_bits_of(x), tishkolan_bits_of(y),
@@ -136,6 +194,9 @@ static void physical(void)
     CHECK(answered(point.refusal) && point.x == -2 && point.y == 0 && point.z == 0);
     point = snap(0.0, 1.0, 1.0, 0); /* as far from x = 1 as from x = -1: away from zero again */
     CHECK(answered(point.refusal) && point.x == -1 && point.y == 1 && point.z == 1);
+    point = snap(0.125, 0.125, 0.125, 3); /* the way back does not divide */
+    CHECK(answered(point.refusal) && point.x == 1 && point.y == 1 && point.z == 1);
+    CHECK(tishkolan_to_physical(point.x, point.y, point.z).x == tishkolan_bits_of(1.0));
     point = snap(0.75, 0.75, 0.75, 2); /* (3, 3, 3) once multiplied by 4 */
     CHECK(answered(point.refusal) && point.x == 3 && point.y == 3 && point.z == 3);
     point = snap(2147483646.0, 0.0, 0.0, 0);
@@ -408,11 +469,13 @@ static void cell_distances(void)
 
 int main(void)
 {
+    version();
     square_root();
     parity();
     lattice_neighbors();
     lattice_children();
     lattice_parent();
+    families();
     physical();
     lattice_distances();
     cell_made();

@@ -91,6 +91,81 @@ static void a_flag_layer(void)
     CHECK(answered(set.refusal) && set.count == 3);
 }
 
+/* ---- the header's readers of records */
+
+static void readers(void)
+{
+    uint8_t flags[3 * FLAG], values[3 * VALUE];
+    const cell cells[3] = {at(3, 0, 0, 0), at(3, 2, 0, 0), at(3, -1, -1, -1)}; /* ascending by their bytes */
+    const uint32_t marks[3] = {0x80000001, 0x01020304, 0xFFFFFFFF};
+    const uint64_t bits[3] = {0x0102030405060708, 0xFFF0000000000001, 0x8000000000000000};
+    size_t count = 0;
+
+    for (size_t i = 0; i < 3; i++) {
+        CHECK(answered(tishkolan_flags_set(flags, sizeof flags, count, cells[i].bytes, CELL, marks[i]).refusal));
+        CHECK(answered(tishkolan_values_set(values, sizeof values, count, cells[i].bytes, CELL, bits[i]).refusal));
+        count++;
+    }
+    for (size_t i = 0; i < 3; i++) {
+        CHECK(tishkolan_flags_cell_at(flags, i) == flags + FLAG * i && same(tishkolan_flags_cell_at(flags, i), cells[i].bytes, CELL));
+        CHECK(tishkolan_values_cell_at(values, i) == values + VALUE * i && same(tishkolan_values_cell_at(values, i), cells[i].bytes, CELL));
+        CHECK(tishkolan_flags_at(flags, i) == marks[i] && tishkolan_values_at(values, i) == bits[i]);
+        CHECK(tishkolan_flags_get(flags, sizeof flags, count, cells[i].bytes, CELL).kept == marks[i]);
+        CHECK(tishkolan_values_get(values, sizeof values, count, cells[i].bytes, CELL).kept == bits[i]);
+    }
+}
+
+/* ---- what the header warns of */
+
+/* The verdict on a step of two units, under the avoiding rule. */
+static uint32_t step(cell from, cell to, const uint8_t *flags, size_t length, uint64_t count)
+{
+    const cell route[2] = {from, to};
+
+    return tishkolan_route_verdict((const uint8_t *)route, sizeof route, from.bytes, CELL, to.bytes, CELL, tishkolan_bits_of(2.0),
+                                   flags, length, count, TISHKOLAN_AVOIDING);
+}
+
+/* A load makes a layer longer: with the count of before, the records behind it are not seen, and nothing refuses. */
+static void a_count_not_taken_back(void)
+{
+    uint8_t held[2 * FLAG], scan[2 * FLAG], file[16 + 2 * FLAG];
+    const cell low = at(3, 0, 0, 0), high = at(3, 4, 4, 4);
+
+    tishkolan_count_answer set = tishkolan_flags_set(held, sizeof held, 0, low.bytes, CELL, 1);
+    CHECK(answered(set.refusal) && set.count == 1);
+    const uint64_t before = set.count;
+    set = tishkolan_flags_set(scan, sizeof scan, 0, low.bytes, CELL, 1);
+    set = tishkolan_flags_set(scan, sizeof scan, set.count, high.bytes, CELL, 1);
+    CHECK(answered(set.refusal) && set.count == 2);
+    tishkolan_length_answer written = tishkolan_survey_write(scan, sizeof scan, set.count, NULL, 0, 0, file, sizeof file);
+    CHECK(answered(written.refusal) && written.length == sizeof file);
+    tishkolan_load_answer load = tishkolan_survey_load(file, sizeof file, held, sizeof held, before, NULL, 0, 0);
+    CHECK(answered(load.refusal) && load.flags == 2);
+    CHECK(step(at(3, 2, 4, 4), high, held, sizeof held, load.flags) == TISHKOLAN_BLOCKED_CELL);
+    CHECK(step(at(3, 2, 4, 4), high, held, sizeof held, before) == TISHKOLAN_ACCEPTED);
+}
+
+/* A plane has cells of one parity, and a step of two units leaps it; two planes beside each other it does not. */
+static void walls(void)
+{
+    static uint8_t flags[TISHKOLAN_MOST_CELLS * FLAG];
+    const cell aft = at(3, 9, 1, 1), fore = at(3, 11, 1, 1);
+    uint64_t count = 0;
+
+    for (int32_t x = 10; x <= 11; x++) {
+        for (int32_t y = x - 10; y <= 41; y += 2)
+            for (int32_t z = x - 10; z <= 41; z += 2) {
+                tishkolan_count_answer set = tishkolan_flags_set(flags, sizeof flags, count, at(3, x, y - 20, z - 20).bytes, CELL, TISHKOLAN_BLOCKED);
+                CHECK(answered(set.refusal));
+                count = set.count;
+            }
+        CHECK(count == (x == 10 ? 441 : 882));
+        CHECK(step(aft, fore, flags, sizeof flags, count) == (x == 10 ? TISHKOLAN_ACCEPTED : TISHKOLAN_BLOCKED_CELL));
+    }
+    CHECK(step(at(3, 8, 0, 0), at(3, 10, 0, 0), flags, sizeof flags, count) == TISHKOLAN_BLOCKED_CELL);
+}
+
 /* ---- what is no layer */
 
 static void bad_layers(void)
@@ -281,6 +356,9 @@ int main(void)
 {
     flags_of_a_cell();
     a_flag_layer();
+    readers();
+    a_count_not_taken_back();
+    walls();
     bad_layers();
     aggregates();
     surveys();

@@ -1,7 +1,7 @@
 /* Lines from C: the known points, what each call refuses, and every byte that it leaves. */
 #include "claims.h"
 
-enum { MOST = 8 };
+enum { DIFFERENCE = 9, MOST = TISHKOLAN_LINE_CELLS(DIFFERENCE) };
 
 static uint8_t out[MOST * CELL];
 
@@ -56,10 +56,50 @@ static void refusals(void)
     CHECK(stops(tishkolan_trace_line(zero.bytes, CELL, two.bytes, 0, out, sizeof out), TISHKOLAN_BAD_LIST, 0));
 }
 
+static int32_t larger(int32_t a, int32_t b)
+{
+    return a < b ? b : a;
+}
+
+/* How many cells a line has: the header's macro is enough for them, and with room for one less than they are it is refused. */
+static size_t takes(cell start, cell end, int32_t difference)
+{
+    const size_t most = TISHKOLAN_LINE_CELLS(difference);
+    const tishkolan_count_answer said = traced(start, end, most);
+    const size_t cells = (size_t)said.count;
+
+    CHECK(answered(said.refusal) && cells <= most && untouched(out + cells * CELL, sizeof out - cells * CELL));
+    CHECK(answered(traced(start, end, cells).refusal));
+    CHECK(stops(traced(start, end, cells - 1), TISHKOLAN_NO_ROOM, 3));
+    return cells;
+}
+
+static void macros(void)
+{
+    const cell zero = at(3, 0, 0, 0);
+    cell start = zero, end = at(3, 1, 1, 1);
+
+    start.bytes[13] |= 0x10;
+    end.bytes[13] |= 0x20;
+    CHECK(takes(zero, start, 0) == TISHKOLAN_LINE_CELLS(0));
+    CHECK(takes(start, end, 1) == TISHKOLAN_LINE_CELLS(1));
+    CHECK(takes(start, at(3, 2, 2, 0), 2) == 4);
+    for (int32_t x = -DIFFERENCE; x <= DIFFERENCE; x++)
+        for (int32_t y = -DIFFERENCE; y <= DIFFERENCE; y++)
+            for (int32_t z = -DIFFERENCE; z <= DIFFERENCE; z++)
+                if ((x & 1) == (y & 1) && (x & 1) == (z & 1)) {
+                    const int32_t difference = larger(larger(x < 0 ? -x : x, y < 0 ? -y : y), z < 0 ? -z : z);
+
+                    /* Between plain cells of one frame and resolution fewer will do. */
+                    CHECK(takes(zero, at(3, x, y, z), difference) <= (size_t)(1 + 3 * difference / 2));
+                }
+}
+
 int main(void)
 {
     answers();
     refusals();
+    macros();
     printf("lines: %d claims hold, %d do not\n", passed, failed);
     return failed != 0;
 }

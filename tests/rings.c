@@ -1,7 +1,7 @@
 /* Rings and shells from C: what each call answers and refuses, and every byte that it leaves. */
 #include "claims.h"
 
-enum { KNOWN = 70, BEHIND = 7, BYTES = TISHKOLAN_RING_BYTES(KNOWN) + BEHIND };
+enum { STEPS = 6, KNOWN = TISHKOLAN_RING_KNOWN(STEPS) + 1, BEHIND = 7, BYTES = TISHKOLAN_RING_BYTES(KNOWN) + BEHIND };
 
 static uint8_t workspace[BYTES], out[(KNOWN + 1) * CELL];
 
@@ -102,6 +102,36 @@ static void rooms(void)
     CHECK(stops(asked(tishkolan_k_shell, center, 1, 1, 1, 0), TISHKOLAN_NO_ROOM, 1));
 }
 
+/* A call with so many known, waiting and listed cells answers; with one less of any, that room is refused. */
+static bool takes(call *around, cell center, uint64_t k, size_t known, size_t waiting, size_t listed)
+{
+    return lists(asked(around, center, k, known, waiting, listed), listed)
+        && stops(asked(around, center, k, known, waiting, listed - 1), TISHKOLAN_NO_ROOM, 3)
+        && (k == 0 /* of one known and one waiting room there is none less */
+            || (stops(asked(around, center, k, known - 1, waiting, listed), TISHKOLAN_NO_ROOM, 1)
+                && stops(asked(around, center, k, known, waiting - 1, listed), TISHKOLAN_NO_ROOM, 2)));
+}
+
+/* The header's macros are what k steps take, and not one less will do. */
+static void macros(void)
+{
+    const cell even = at(3, 0, 0, 0), odd = at(3, -3, 5, 1);
+
+    for (uint64_t k = 0; k <= STEPS; k++) {
+        const size_t known = TISHKOLAN_RING_KNOWN(k), waiting = TISHKOLAN_RING_WAITING(k), shell = TISHKOLAN_SHELL_CELLS(k);
+        const size_t twin = k >= 2, new_twin = k == 2;
+
+        CHECK(takes(tishkolan_k_ring, even, k, known, waiting, known));
+        CHECK(takes(tishkolan_k_ring, odd, k, known, waiting, known));
+        CHECK(takes(tishkolan_k_shell, even, k, known, waiting, shell));
+        CHECK(takes(tishkolan_k_shell, odd, k, known, waiting, shell));
+        CHECK(takes(tishkolan_k_ring, flagged(even), k, known + twin, waiting + new_twin, known + twin));
+        CHECK(takes(tishkolan_k_shell, flagged(odd), k, known + twin, waiting + new_twin, shell + new_twin));
+    }
+    CHECK(TISHKOLAN_RING_KNOWN(24) == 58849 && TISHKOLAN_RING_KNOWN(25) == 66351);
+    CHECK(TISHKOLAN_RING_KNOWN(1000000) == 4000006000004000001);
+}
+
 static bool bad_workspace(size_t known, size_t waiting, size_t bytes)
 {
     const cell center = at(3, 0, 0, 0);
@@ -130,6 +160,7 @@ int main(void)
     answers();
     refusals();
     rooms();
+    macros();
     workspaces();
     printf("rings: %d claims hold, %d do not\n", passed, failed);
     return failed != 0;

@@ -86,26 +86,33 @@ static bool is_read(int x, int y, int z, bool port_too)
     return z >= 2 && z <= HEIGHT - 2 && (y == 1 || (port_too && y == WIDTH - 1));
 }
 
-static size_t count_of(tishkolan_count_answer answer)
+static void must_answer(tishkolan_refusal said)
 {
-    if (answer.refusal.number != TISHKOLAN_ANSWERED) {
-        fprintf(stderr, "make_surveys: refused %u\n", answer.refusal.number);
+    if (said.number != TISHKOLAN_ANSWERED) {
+        fprintf(stderr, "make_surveys: refused %u\n", said.number);
         exit(1);
     }
+}
+
+static size_t count_of(tishkolan_count_answer answer)
+{
+    must_answer(answer.refusal);
     return (size_t)answer.count;
 }
 
 static void write_survey(const char *folder, const char *name, bool manhole_open, bool port_too)
 {
-    static uint8_t flags[FLAG_BYTES], values[VALUE_BYTES], file[16 + FLAG_BYTES + VALUE_BYTES];
+    static uint8_t flags[FLAG_BYTES], values[VALUE_BYTES], file[TISHKOLAN_FILE_BYTES];
     size_t flag_count = 0, value_count = 0;
     uint8_t cell[TISHKOLAN_CELL_BYTES];
 
     for (int x = 0; x <= LENGTH; x++)
         for (int y = 0; y <= WIDTH; y++)
             for (int z = 0; z <= HEIGHT; z++) {
-                if (tishkolan_cell_from_coords(0, RESOLUTION, x, y, z, cell, sizeof cell).number == TISHKOLAN_INVALID_PARITY)
+                tishkolan_refusal made = tishkolan_cell_from_coords(0, RESOLUTION, x, y, z, cell, sizeof cell);
+                if (made.number == TISHKOLAN_INVALID_PARITY)
                     continue; /* no point of the lattice */
+                must_answer(made);
                 uint32_t kept = flags_at(x, y, z, manhole_open);
                 if (kept != TISHKOLAN_NONE)
                     flag_count = count_of(tishkolan_flags_set(flags, sizeof flags, flag_count, cell, sizeof cell, kept));
@@ -115,6 +122,7 @@ static void write_survey(const char *folder, const char *name, bool manhole_open
             }
 
     tishkolan_length_answer written = tishkolan_survey_write(flags, sizeof flags, flag_count, values, sizeof values, value_count, file, sizeof file);
+    must_answer(written.refusal);
     char path[4096];
     snprintf(path, sizeof path, "%s/%s", folder, name);
     FILE *out = fopen(path, "wb");
