@@ -59,6 +59,10 @@ extern "C" {
  * compilers of x86-64 (System V) and 64-bit Arm (AAPCS64) pass them under Linux, both little-endian. */
 uint32_t tishkolan_version(void);
 
+/*     if (tishkolan_version() != TISHKOLAN_VERSION_NUMBER)
+ *         return 1;
+ *     puts(TISHKOLAN_VERSION); // 0.2.0 */
+
 /* ---- what a call says */
 
 /* The refusals' numbers. 0 says that the call answered. */

@@ -18,6 +18,7 @@ static bool same(const uint8_t *bytes, cell expected)
 
 static void version(void)
 {
+    CHECK(tishkolan_version() == TISHKOLAN_VERSION_NUMBER);
     char words[40];
 
     snprintf(words, sizeof words, "%d.%d.%d", TISHKOLAN_VERSION_MAJOR, TISHKOLAN_VERSION_MINOR, TISHKOLAN_VERSION_PATCH);
