@@ -460,7 +460,7 @@ tishkolan_number_answer tishkolan_flags_is_empty(const uint8_t *table, size_t ta
 /* Zeroes all records that the table holds, 1,024 at most; the count is 0 from now on. Tests nothing. */
 void tishkolan_flags_clear(uint8_t *table, size_t table_length);
 
-/* The records in use, ascending, as bytes. NO_ROOM 3. */
+/* The bytes of the records in use, 20 each, in a value layer 24. NO_ROOM 3. */
 tishkolan_count_answer tishkolan_flags_list(const uint8_t *table, size_t table_length, size_t count,
                                             uint8_t *out, size_t out_length);
 
@@ -526,7 +526,7 @@ tishkolan_bits_answer tishkolan_values_aggregate(const uint8_t *table, size_t ta
  * NO_ROOM 4. The answer's count is that of coarse: the new one, or where the call refuses coarse_count,
  * which is handed back and used for nothing else. coarse is not tested.
  * Time: the records of fine times their logarithm, and the zeroing of its arrays and of coarse.
- * Stack: 93,000 bytes. */
+ * Stack: 94,000 bytes. */
 tishkolan_count_answer tishkolan_values_rollup(const uint8_t *fine, size_t fine_length, size_t fine_count,
                                                uint32_t how,
                                                uint8_t *coarse, size_t coarse_length, size_t coarse_count);
