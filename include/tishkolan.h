@@ -324,7 +324,7 @@ tishkolan_refusal tishkolan_cell_parent(const uint8_t *cell, size_t cell_length,
 /* The ancestor at a resolution: NO_PARENT where that is finer than the cell's; the cell
  * itself, unchanged, at its own; else INVALID_PARITY, or the parent of the parent, as
  * often as it takes; NO_ROOM 3.
- * Time and stack: so much for each resolution in between; from 255 to 0 46,000 bytes of stack. */
+ * Time and stack: so much for each resolution in between; from 255 to 0 50,000 bytes of stack. */
 tishkolan_refusal tishkolan_cell_ancestor(const uint8_t *cell, size_t cell_length,
                                           uint8_t resolution,
                                           uint8_t *out, size_t out_length);
@@ -464,7 +464,7 @@ tishkolan_number_answer tishkolan_flags_is_empty(const uint8_t *table, size_t ta
 /* Zeroes all records that the table holds, 1,024 at most; the count is 0 from now on. Tests nothing. */
 void tishkolan_flags_clear(uint8_t *table, size_t table_length);
 
-/* The records in use, ascending, as bytes. NO_ROOM 3. */
+/* The bytes of the records in use, 20 each, in a value layer 24. NO_ROOM 3. */
 tishkolan_count_answer tishkolan_flags_list(const uint8_t *table, size_t table_length, size_t count,
                                             uint8_t *out, size_t out_length);
 
@@ -530,7 +530,7 @@ tishkolan_bits_answer tishkolan_values_aggregate(const uint8_t *table, size_t ta
  * NO_ROOM 4. The answer's count is that of coarse: the new one, or where the call refuses coarse_count,
  * which is handed back and used for nothing else. coarse is not tested.
  * Time: the records of fine times their logarithm, and the zeroing of its arrays and of coarse.
- * Stack: 95,000 bytes. */
+ * Stack: 94,000 bytes. */
 tishkolan_count_answer tishkolan_values_rollup(const uint8_t *fine, size_t fine_length, size_t fine_count,
                                                uint32_t how,
                                                uint8_t *coarse, size_t coarse_length, size_t coarse_count);
@@ -585,7 +585,7 @@ typedef struct {
  * are, however often each is named: of the flags, then of the values.
  * TAKE BOTH COUNTS BACK, or the next verdict judges a part of the new survey: see layers.
  * Time: f log f and v log v, and the zeroing of its arrays and of the rest of both tables.
- * Stack: 66,000 bytes. */
+ * Stack: 65,000 bytes. */
 tishkolan_load_answer tishkolan_survey_load(const uint8_t *file, size_t file_length,
                                             uint8_t *flags, size_t flags_length, size_t flags_count,
                                             uint8_t *values, size_t values_length, size_t values_count);
@@ -803,7 +803,7 @@ uint32_t tishkolan_route_choice(const uint8_t *sent, size_t sent_length,
  * cells, as in rings, and for each neighbour that is new or reached at a lower cost a look in the flag
  * layer, a root, and a place in the heap of those that wait, both by their logarithms; the zeroing of
  * both workspaces whole, however long you say that they are: lend what fits.
- * Stack: 1,400 bytes. */
+ * Stack: 1,300 bytes. */
 
 #define TISHKOLAN_SEARCH_KNOWN_BYTES(known) ((size_t)44 * (known) + 64)
 #define TISHKOLAN_SEARCH_WAITING_BYTES(waiting) ((size_t)32 * (waiting))

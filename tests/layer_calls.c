@@ -152,15 +152,16 @@ static void walls(void)
     static uint8_t flags[TISHKOLAN_MOST_CELLS * FLAG];
     const cell aft = at(3, 9, 1, 1), fore = at(3, 11, 1, 1);
     uint64_t count = 0;
+    bool all = true;
 
     for (int32_t x = 10; x <= 11; x++) {
         for (int32_t y = x - 10; y <= 41; y += 2)
             for (int32_t z = x - 10; z <= 41; z += 2) {
                 tishkolan_count_answer set = tishkolan_flags_set(flags, sizeof flags, count, at(3, x, y - 20, z - 20).bytes, CELL, TISHKOLAN_BLOCKED);
-                CHECK(answered(set.refusal));
+                all &= answered(set.refusal);
                 count = set.count;
             }
-        CHECK(count == (x == 10 ? 441 : 882));
+        CHECK(all && count == (x == 10 ? 441 : 882));
         CHECK(step(aft, fore, flags, sizeof flags, count) == (x == 10 ? TISHKOLAN_ACCEPTED : TISHKOLAN_BLOCKED_CELL));
     }
     CHECK(step(at(3, 8, 0, 0), at(3, 10, 0, 0), flags, sizeof flags, count) == TISHKOLAN_BLOCKED_CELL);

@@ -61,23 +61,23 @@ static int32_t larger(int32_t a, int32_t b)
     return a < b ? b : a;
 }
 
-/* How many cells a line has: the header's macro is enough for them, and with room for one less than they are it is refused. */
+/* How many cells a line has: the header's macro is enough for them, and with room for one less than they are it is refused.
+ * 0 where that does not hold. */
 static size_t takes(cell start, cell end, int32_t difference)
 {
     const size_t most = TISHKOLAN_LINE_CELLS(difference);
     const tishkolan_count_answer said = traced(start, end, most);
     const size_t cells = (size_t)said.count;
+    const bool fits = answered(said.refusal) && cells <= most && untouched(out + cells * CELL, sizeof out - cells * CELL);
 
-    CHECK(answered(said.refusal) && cells <= most && untouched(out + cells * CELL, sizeof out - cells * CELL));
-    CHECK(answered(traced(start, end, cells).refusal));
-    CHECK(stops(traced(start, end, cells - 1), TISHKOLAN_NO_ROOM, 3));
-    return cells;
+    return fits && answered(traced(start, end, cells).refusal) && stops(traced(start, end, cells - 1), TISHKOLAN_NO_ROOM, 3) ? cells : 0;
 }
 
 static void macros(void)
 {
     const cell zero = at(3, 0, 0, 0);
     cell start = zero, end = at(3, 1, 1, 1);
+    bool fewer = true;
 
     start.bytes[13] |= 0x10;
     end.bytes[13] |= 0x20;
@@ -90,9 +90,11 @@ static void macros(void)
                 if ((x & 1) == (y & 1) && (x & 1) == (z & 1)) {
                     const int32_t difference = larger(larger(x < 0 ? -x : x, y < 0 ? -y : y), z < 0 ? -z : z);
 
-                    /* Between plain cells of one frame and resolution fewer will do. */
-                    CHECK(takes(zero, at(3, x, y, z), difference) <= (size_t)(1 + 3 * difference / 2));
+                    const size_t cells = takes(zero, at(3, x, y, z), difference);
+
+                    fewer &= 0 < cells && cells <= (size_t)(1 + 3 * difference / 2);
                 }
+    CHECK(fewer); /* between plain cells of one frame and resolution */
 }
 
 int main(void)
