@@ -139,6 +139,7 @@ static void note(const char *name, void (*make)(void))
 #define WHOLE(buffer) buffer, sizeof buffer
 #define ROOMS ROOM, ROOM, known, sizeof known, waiting, sizeof waiting, out, sizeof out
 
+CALL(tishkolan_version, )
 CALL(tishkolan_square_root, 0x4000000000000000)
 CALL(tishkolan_square_root, 0x43E0000000000001)
 CALL(tishkolan_square_root, 0x43EFFFFFFFFFFFFF)
@@ -282,20 +283,6 @@ CALL(tishkolan_astar, WHOLE(here), WHOLE(far), WHOLE(wall), walls, TISHKOLAN_AVO
 CALL(tishkolan_astar, WHOLE(here), WHOLE(far), WHOLE(flags), MOST, TISHKOLAN_AVOIDING, ROOMS)
 CALL(tishkolan_astar, WHOLE(here), WHOLE(end), WHOLE(flags), MOST, TISHKOLAN_FREE, ROOMS)
 CALL(tishkolan_astar, WHOLE(here), WHOLE(here), WHOLE(flags), MOST, TISHKOLAN_FREE, ROOMS)
-
-/* An archive that is older than this call has none. */
-uint32_t tishkolan_version(void) __attribute__((weak));
-
-static void make_version(void)
-{
-    if (tishkolan_version)
-        (void)tishkolan_version();
-}
-
-__attribute__((constructor)) static void note_version(void)
-{
-    note("tishkolan_version", make_version);
-}
 
 /* ---- the stack */
 
