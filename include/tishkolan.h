@@ -640,8 +640,9 @@ tishkolan_length_answer tishkolan_survey_write(const uint8_t *flags, size_t flag
  * 2147483646 in magnitude is skipped.
  * Time: all samples; where the output has less room than TISHKOLAN_LINE_CELLS all of them once more, to
  * see whether the line fits, which ends early only where a cell finds no room. Along the edge of the
- * 32-bit numbers every sample is skipped, so a line of two cells into an output of two may take minutes:
- * bound the difference before you call. */
+ * 32-bit numbers every sample is skipped, so the small output stops nothing: from (2147483647, -1073741823,
+ * 1) to (2147483647, 1073741823, 1) two cells took 40 seconds in one call (Neoverse V1). Bound the
+ * difference before you call. */
 tishkolan_count_answer tishkolan_trace_line(const uint8_t *start, size_t start_length,
                                             const uint8_t *end, size_t end_length,
                                             uint8_t *output, size_t output_length);
