@@ -38,15 +38,15 @@ alone() { # NAME
     export TISHKOLAN_ALONE=1
 }
 
-# Ends the program NAME where this folder cannot be written, or there is less room on its disk than so many megabytes.
+# Ends the program NAME where this folder cannot be written, or there is less room on its disk, or where temporary files go, than so many megabytes.
 room_for() { # NAME MEGABYTES
     if ! [ -w . ]; then
         echo "$1: this folder cannot be written: $PWD" >&2
         exit 2
     fi
-    free=$(df -Pm . | awk 'NR == 2 { print $4 }')
+    free=$(df -Pm . "${TMPDIR:-/tmp}" | awk 'NR == 2 || NR > 2 && $4 < least { least = $4 } END { print least }')
     if [ "$free" -lt "$2" ]; then
-        echo "$1: there are $free MB free on the disk of this folder, and it takes up to $2 MB" >&2
+        echo "$1: there are $free MB free on the disk of this folder or of ${TMPDIR:-/tmp}, and it takes up to $2 MB" >&2
         exit 2
     fi
 }
