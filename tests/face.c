@@ -18,12 +18,11 @@ static bool same(const uint8_t *bytes, cell expected)
 
 static void version(void)
 {
-    CHECK(tishkolan_version() == TISHKOLAN_VERSION_NUMBER);
     char words[40];
 
     snprintf(words, sizeof words, "%d.%d.%d", TISHKOLAN_VERSION_MAJOR, TISHKOLAN_VERSION_MINOR, TISHKOLAN_VERSION_PATCH);
     CHECK(strcmp(words, TISHKOLAN_VERSION) == 0);
-    CHECK(TISHKOLAN_VERSION_NUMBER == TISHKOLAN_VERSION_MAJOR * 1000000 + TISHKOLAN_VERSION_MINOR * 1000 + TISHKOLAN_VERSION_PATCH);
+    CHECK(tishkolan_version() == TISHKOLAN_VERSION_NUMBER);
 }
 
 /* ---- square root */
