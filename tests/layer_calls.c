@@ -27,6 +27,7 @@ static bool flag_record(const uint8_t *record, cell c, uint32_t flags)
 
 static void flags_of_a_cell(void)
 {
+    CHECK(TISHKOLAN_NONE == 0 && TISHKOLAN_BLOCKED == 1 && TISHKOLAN_NO_FLY == 2 && TISHKOLAN_WATER == 4 && TISHKOLAN_BOUNDARY == 8);
     CHECK(tishkolan_is_blocked(TISHKOLAN_BLOCKED) && !tishkolan_is_blocked(TISHKOLAN_NONE));
     CHECK(!tishkolan_is_blocked(TISHKOLAN_NO_FLY | TISHKOLAN_WATER | TISHKOLAN_BOUNDARY));
     CHECK(tishkolan_is_blocked(0xFFFFFFFF) && !tishkolan_is_blocked(0xFFFFFFFE));
