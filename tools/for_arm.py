@@ -34,7 +34,11 @@ OUTSIDE = re.compile(
     r'|@\S+ = (?:private|internal) unnamed_addr constant \[\d+ x i8\] '
     r'|attributes #\d+ = \{ [^"]*(?:"probe-stack"="inline-asm" )?\}$'
     r'|!')
-# In functions: nothing that is of one machine, or that lets a compiler round otherwise.
+# In functions: these instructions, the rows of a switch, and labels; and nothing that is of one machine, or that lets a compiler round otherwise.
+INSTRUCTIONS = '|'.join((
+    'alloca load store getelementptr call br switch ret unreachable select phi icmp fcmp add sub mul udiv sdiv urem srem and or xor shl lshr ashr '
+    'fadd fsub fmul fdiv fneg zext sext trunc bitcast sitofp uitofp fptosi fptoui').split())
+INSIDE = re.compile(rf'(?:|[\w.]+:|  (?:%[\w.]+ = )?(?:{INSTRUCTIONS})(?: .*)?|    i(?:8|16|32|64) -?\d+, label %[\w.]+|  \]|\}})(?: *;.*)?$')
 NOT_INSIDE = re.compile(rf'\basm\b|(?!{INTRINSICS})@llvm\.|\b(?:fast|contract|reassoc|afn|arcp|nnan|ninf|nsz|i128|x86_\w+|fp128|inalloca|sret|byval|musttail|swiftself|va_arg)\b')
 
 
@@ -68,7 +72,7 @@ def main():
     out, seen, inside, in_memory = [], set(), False, False
     for number, line in enumerate(sys.stdin.read().split('\n'), 1):
         if inside:
-            if NOT_INSIDE.search(line.split(', !')[0]):
+            if not INSIDE.match(line) or NOT_INSIDE.search(line.split(', !')[0]):
                 refuse(number, line, 'this is not known to be the same on Arm')
             if line == '}':
                 inside = in_memory = False
