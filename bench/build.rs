@@ -1,7 +1,8 @@
 //! Links the library: what TISHKOLAN_LIBRARY names, as bench/run sets it. Calls that it does not
 //! have are not timed.
 
-const GROUPS: [(&str, &str); 6] = [
+const GROUPS: [(&str, &str); 7] = [
+    ("labels", "tishkolan_cell_to_bech32m"),
     ("aggregates", "tishkolan_values_rollup"),
     ("survey", "tishkolan_survey_write"),
     ("routes", "tishkolan_route_verdict"),

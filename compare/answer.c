@@ -3,9 +3,9 @@
  * compare is Rust on this machine; the library may be the other machine's, in an emulator. So the
  * library is linked here, in C and through its own header, and the two talk through pipes. Numbers are little-endian. A batch is its length in bytes (4) and its requests:
  *
- *   call (1), length of the first cell (1), of the second (1), fill (1),
+ *   call (1), length of the first cell or of the label (1), of the second cell (1), fill (1),
  *   length of the buffer in elements (2), 1 for NULL where a length is 0 (1), 0 (1),
- *   seven numbers (8 each), the bytes of the first cell, of the second
+ *   seven numbers (8 each), the bytes of the first cell or of the label, of the second cell
  *
  * Its answer is a length in bytes (4) and for each request:
  *
@@ -68,13 +68,19 @@ static void say_fields(tishkolan_fields_answer answer)
     value[7] = answer.z;
 }
 
+static void say_place(tishkolan_place_answer answer)
+{
+    refusal = answer.refusal;
+    value[0] = (int64_t)answer.place;
+}
+
 /* The bytes of an element of the call's buffer; 0 where it has none. */
 static size_t element(int call)
 {
     switch (call) {
     case 5: case 6:
         return 4;
-    case 12: case 13: case 18: case 19: case 20: case 21:
+    case 12: case 13: case 18: case 19: case 20: case 21: case 25: case 26:
         return 1;
     default:
         return 0;
@@ -127,6 +133,8 @@ static void make_call(int call, const uint8_t *first, size_t first_length,
     case 24:
         say_number(tishkolan_cell_manhattan_distance(first, first_length, second, second_length));
         break;
+    case 25: refusal = tishkolan_cell_to_bech32m(first, first_length, out, out_length); break;
+    case 26: say_place(tishkolan_cell_from_bech32m(first, first_length, out, out_length)); break;
     default:
         fprintf(stderr, "answer: there is no call %d\n", call);
         exit(2);

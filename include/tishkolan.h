@@ -47,9 +47,9 @@ extern "C" {
 /* ---- the version of this header */
 
 #define TISHKOLAN_VERSION_MAJOR 0
-#define TISHKOLAN_VERSION_MINOR 2
+#define TISHKOLAN_VERSION_MINOR 3
 #define TISHKOLAN_VERSION_PATCH 0
-#define TISHKOLAN_VERSION "0.2.0"
+#define TISHKOLAN_VERSION "0.3.0"
 #define TISHKOLAN_VERSION_NUMBER \
     (TISHKOLAN_VERSION_MAJOR * 1000000 + TISHKOLAN_VERSION_MINOR * 1000 + TISHKOLAN_VERSION_PATCH)
 
@@ -61,7 +61,7 @@ uint32_t tishkolan_version(void);
 
 /*     if (tishkolan_version() != TISHKOLAN_VERSION_NUMBER)
  *         return 1;
- *     puts(TISHKOLAN_VERSION); // 0.2.0 */
+ *     puts(TISHKOLAN_VERSION); // 0.3.0 */
 
 /* ---- what a call says */
 
@@ -82,10 +82,17 @@ enum {
     TISHKOLAN_BAD_FILE = 12,             /* carries the byte place */
     TISHKOLAN_BAD_LIST = 13,             /* a list whose length is no multiple of 16, or one cell of another length than 16 */
     TISHKOLAN_BAD_LAYER = 14,
-    TISHKOLAN_BAD_RULE = 15
+    TISHKOLAN_BAD_RULE = 15,
+    /* Of a label; each carries the place. */
+    TISHKOLAN_LABEL_PREFIX = 30,
+    TISHKOLAN_LABEL_MIXED_CASE = 31,
+    TISHKOLAN_LABEL_CHARACTER = 32,
+    TISHKOLAN_LABEL_LENGTH = 33,
+    TISHKOLAN_LABEL_CHECKSUM = 34,
+    TISHKOLAN_LABEL_PADDING = 35
 };
 
-enum { TISHKOLAN_CELL_BYTES = 16, TISHKOLAN_NEIGHBORS = 14, TISHKOLAN_CHILDREN = 8 };
+enum { TISHKOLAN_CELL_BYTES = 16, TISHKOLAN_LABEL_BYTES = 37, TISHKOLAN_NEIGHBORS = 14, TISHKOLAN_CHILDREN = 8 };
 
 static inline const char *tishkolan_refusal_name(uint32_t number)
 {
@@ -106,6 +113,12 @@ static inline const char *tishkolan_refusal_name(uint32_t number)
     case TISHKOLAN_BAD_LIST: return "the bytes are no list of cells";
     case TISHKOLAN_BAD_LAYER: return "the table is no layer";
     case TISHKOLAN_BAD_RULE: return "there is no such rule";
+    case TISHKOLAN_LABEL_PREFIX: return "the label does not begin with cx3d1";
+    case TISHKOLAN_LABEL_MIXED_CASE: return "the label has letters of both cases";
+    case TISHKOLAN_LABEL_CHARACTER: return "no label has this character";
+    case TISHKOLAN_LABEL_LENGTH: return "the label is not 37 characters long";
+    case TISHKOLAN_LABEL_CHECKSUM: return "the label's checksum is wrong";
+    case TISHKOLAN_LABEL_PADDING: return "the label's padding is not zero";
     default: return "no refusal has this number";
     }
 }
@@ -133,7 +146,8 @@ typedef struct {
 
 /* An answer beside its refusal is 0 in every field where the call refuses, but for the counts of
  * layers (tishkolan_count_answer, tishkolan_kept_answer, tishkolan_load_answer) and for what a
- * refusal carries in a struct of its own (tishkolan_load_answer, tishkolan_search_answer).
+ * refusal carries in a struct of its own (tishkolan_place_answer, tishkolan_load_answer,
+ * tishkolan_search_answer).
  *
  * Yes and no come in three ways: a call that refuses nothing answers with a bool; one that may refuse
  * has 1 or 0 as the value of a tishkolan_number_answer; and tishkolan_kept_answer, which has more to
@@ -163,6 +177,11 @@ typedef struct {
     uint8_t frame, resolution, exponent, flags, reserved;
     int32_t x, y, z;
 } tishkolan_fields_answer;
+
+typedef struct {
+    tishkolan_refusal refusal;
+    uint64_t place; /* of a refusal that carries one, from 0; else 0 */
+} tishkolan_place_answer;
 
 static inline uint64_t tishkolan_bits_of(double value)
 {
@@ -279,8 +298,9 @@ tishkolan_number_answer tishkolan_lattice_manhattan_distance(int32_t ax, int32_t
  *
  * A call that takes a cell of another length is BAD_LIST before anything else; one that
  * answers with cells is NO_ROOM 3, last of all, where out is shorter than its answer.
- * The cells of an answer are plain, but for two: the cell that tishkolan_cell_new makes has the exponent
- * and flags that it was given, and the ancestor at a cell's own resolution is that cell, unchanged. */
+ * The cells of an answer are plain, but for three: the cell that tishkolan_cell_new makes has the exponent
+ * and flags that it was given, the ancestor at a cell's own resolution is that cell, unchanged, and the
+ * cell that is read from a label has all bits of the one that was written. */
 
 /* The cell of these fields, the exponent taken modulo 16, reserved 0. INVALID_PARITY. */
 tishkolan_refusal tishkolan_cell_new(uint8_t frame, uint8_t resolution,
@@ -352,6 +372,46 @@ tishkolan_number_answer tishkolan_cell_manhattan_distance(const uint8_t *first, 
  *     if (apart.refusal.number != TISHKOLAN_ANSWERED)
  *         return 1;
  *     printf("%.3f units\n", tishkolan_double_of(apart.bits)); // 1.732 units */
+
+/* ---- labels: a cell's name on paper, as on a plate drawing.
+ * A label is a Bech32m string of BIP 350, 37 characters: cx3d, the separator 1, 26 characters of the
+ * cell's 16 bytes, 5 bits each, the first bit first and two zero bits behind the last, and 6 of checksum.
+ * Every cell has one, whatever its 16 bytes are. The characters behind the separator are, from 0 to 31,
+ * qpzry9x8gf2tvdw0s3jn54khce6mua7l: no 1, b, i or o. A label is written in lower case and read in either,
+ * but not in both at once. There is no zero byte behind it, and none is taken for its end.
+ * A character mistyped for another of the 32 is a wrong checksum, whose place is the string's length:
+ * where it stands is not told. That up to four such characters are always seen is BIP 173's word; no
+ * proof covers it. */
+
+/* The label of a cell, 37 bytes. BAD_LIST; NO_ROOM 3. */
+tishkolan_refusal tishkolan_cell_to_bech32m(const uint8_t *cell, size_t cell_length,
+                                            uint8_t *out, size_t out_length);
+
+/* The cell that a label names, 16 bytes. The label may be any bytes; where it is none, the refusal says
+ * why, and the answer the place, from 0, of the first character at fault:
+ * LABEL_PREFIX, the first that is not as in cx3d1, case aside, or the length of a string that ends there;
+ * LABEL_MIXED_CASE, the first letter that is not of the case of those before it, wherever it stands;
+ * LABEL_CHARACTER, the first behind cx3d1 that is none of the 32, wherever it stands;
+ * LABEL_LENGTH, a string that is not 37 long, and LABEL_CHECKSUM, each with the string's length;
+ * LABEL_PADDING, the two bits behind the cell's are not zero, with the place 30, where they stand.
+ * Then NO_ROOM 3, which has no place. Time: the characters. */
+tishkolan_place_answer tishkolan_cell_from_bech32m(const uint8_t *label, size_t label_length,
+                                                   uint8_t *out, size_t out_length);
+
+/*     char label[TISHKOLAN_LABEL_BYTES + 1] = ""; // one byte more, for the zero
+ *     if (tishkolan_cell_to_bech32m(struck, 16, (uint8_t *)label, TISHKOLAN_LABEL_BYTES).number != TISHKOLAN_ANSWERED)
+ *         return 1;
+ *     puts(label); // cx3d1qqqqqqgqqqqqzqqqqqqsqqqrqquc76rm
+ *     uint8_t named[16];
+ *     tishkolan_place_answer read = tishkolan_cell_from_bech32m((const uint8_t *)label, strlen(label), named, 16);
+ *     if (read.refusal.number != TISHKOLAN_ANSWERED || memcmp(named, struck, 16) != 0)
+ *         return 1;
+ *     label[9] = 'o'; // a letter that no label has,
+ *     read = tishkolan_cell_from_bech32m((const uint8_t *)label, strlen(label), named, 16);
+ *     printf("at %u: %s\n", (unsigned)read.place, tishkolan_refusal_name(read.refusal.number)); // at 9: no label has this character
+ *     label[9] = '0'; // and one that labels have
+ *     read = tishkolan_cell_from_bech32m((const uint8_t *)label, strlen(label), named, 16);
+ *     printf("at %u: %s\n", (unsigned)read.place, tishkolan_refusal_name(read.refusal.number)); // at 37: the label's checksum is wrong */
 
 /* ---- layers: a table of records that you lend, and how many of them are in use.
  * A flag record has 20 bytes: a cell (0 to 15) and 32 bits (16 to 19). A value record has 24: a cell and
@@ -876,6 +936,7 @@ TISHKOLAN_HOLDS(offsetof(tishkolan_fields_answer, resolution) == 21 && offsetof(
 TISHKOLAN_HOLDS(offsetof(tishkolan_fields_answer, flags) == 23 && offsetof(tishkolan_fields_answer, reserved) == 24);
 TISHKOLAN_HOLDS(offsetof(tishkolan_fields_answer, x) == 28 && offsetof(tishkolan_fields_answer, y) == 32);
 TISHKOLAN_HOLDS(offsetof(tishkolan_fields_answer, z) == 36);
+TISHKOLAN_HOLDS(sizeof(tishkolan_place_answer) == 32 && offsetof(tishkolan_place_answer, place) == 24);
 TISHKOLAN_HOLDS(sizeof(tishkolan_count_answer) == 32 && offsetof(tishkolan_count_answer, count) == 24);
 TISHKOLAN_HOLDS(sizeof(tishkolan_kept_answer) == 40 && offsetof(tishkolan_kept_answer, found) == 20);
 TISHKOLAN_HOLDS(offsetof(tishkolan_kept_answer, kept) == 24 && offsetof(tishkolan_kept_answer, count) == 32);

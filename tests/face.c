@@ -467,6 +467,159 @@ static void cell_distances(void)
     CHECK(refused(steps.refusal, TISHKOLAN_BAD_LIST) && steps.value == 0);
 }
 
+/* ---- labels */
+
+#define LABEL TISHKOLAN_LABEL_BYTES
+
+/* The label of the zero cell. */
+static const char zero_label[] = "cx3d1qqqqqqqqqqqqqqqqqqqqqqqqqqchrr7t";
+
+static void label_written(void)
+{
+    static const struct {
+        uint8_t cell[CELL];
+        const char *label;
+    } known[] = {
+        {{0}, zero_label},
+        {{0xFF, 0xFF, 0xFF, 0xFF, 0xFF, 0xFF, 0xFF, 0xFF, 0xFF, 0xFF, 0xFF, 0xFF, 0xFF, 0xFF, 0xFF, 0xFF},
+         "cx3d1llllllllllllllllllllllllluzkm08t"},
+        {{0x00, 0x00, 0x00, 0x01, 0xFF, 0xFF, 0xFF, 0xFF, 0x00, 0x00, 0x00, 0x01, 0x0A, 0x5C, 0x03, 0x00},
+         "cx3d1qqqqqq0lllll7qqqqqqs5hqrqq75s4gn"},
+        {{0, 0, 0, 0, 0, 0, 0, 0, 0, 0, 0, 0, 0, 0, 0x03, 0x00}, "cx3d1qqqqqqqqqqqqqqqqqqqqqqqrqq73cnu2"}};
+    uint8_t out[LABEL + 4], upper[LABEL], read[CELL + 4];
+
+    for (size_t place = 0; place < sizeof known / sizeof known[0]; place++) {
+        const uint8_t *from = known[place].cell;
+        const char *label = known[place].label;
+
+        fill(out, sizeof out);
+        CHECK(answered(tishkolan_cell_to_bech32m(from, CELL, out, sizeof out)));
+        CHECK(memcmp(out, label, LABEL) == 0 && untouched(out + LABEL, 4));
+        fill(out, sizeof out);
+        CHECK(answered(tishkolan_cell_to_bech32m(from, CELL, out, LABEL)));
+        CHECK(memcmp(out, label, LABEL) == 0 && untouched(out + LABEL, 4));
+
+        /* Read back as it was written, and in upper case. */
+        for (int byte = 0; byte < LABEL; byte++)
+            upper[byte] = (uint8_t)(label[byte] - ('a' <= label[byte] && label[byte] <= 'z' ? 'a' - 'A' : 0));
+        for (int turn = 0; turn < 2; turn++) {
+            fill(read, sizeof read);
+            const tishkolan_place_answer answer = tishkolan_cell_from_bech32m(turn == 0 ? out : upper, LABEL, read, turn == 0 ? CELL : sizeof read);
+            CHECK(answered(answer.refusal) && answer.place == 0);
+            CHECK(memcmp(read, from, CELL) == 0 && untouched(read + CELL, 4));
+        }
+    }
+
+    fill(out, sizeof out);
+    CHECK(refused(tishkolan_cell_to_bech32m(known[0].cell, 15, out, sizeof out), TISHKOLAN_BAD_LIST));
+    CHECK(refused(tishkolan_cell_to_bech32m(known[0].cell, 15, out, 0), TISHKOLAN_BAD_LIST));
+    CHECK(refused(tishkolan_cell_to_bech32m(NULL, 0, out, sizeof out), TISHKOLAN_BAD_LIST));
+    CHECK(refused(tishkolan_cell_to_bech32m(NULL, 0, NULL, 0), TISHKOLAN_BAD_LIST));
+    CHECK(no_room(tishkolan_cell_to_bech32m(known[0].cell, CELL, out, LABEL - 1)));
+    CHECK(no_room(tishkolan_cell_to_bech32m(known[0].cell, CELL, NULL, 0)));
+    CHECK(untouched(out, sizeof out));
+}
+
+/* Whether so many bytes are refused with this number and place, though there is room, and where there is none. */
+static bool mistyped(const void *label, size_t length, uint32_t number, uint64_t place)
+{
+    uint8_t out[CELL];
+    bool holds = true;
+
+    fill(out, sizeof out);
+    for (size_t room = 0; room <= CELL; room += CELL) {
+        const tishkolan_place_answer answer = tishkolan_cell_from_bech32m(label, length, room == 0 ? NULL : out, room);
+        holds &= refused(answer.refusal, number) && answer.place == place && untouched(out, sizeof out);
+    }
+    return holds;
+}
+
+/* The zero cell's label with another character at a place; at 37 behind it. */
+static bool mistyped_at(size_t at, char character, uint32_t number, uint64_t place)
+{
+    char label[LABEL + 1];
+
+    memcpy(label, zero_label, LABEL);
+    label[at] = character;
+    return mistyped(label, at < LABEL ? LABEL : LABEL + 1, number, place);
+}
+
+static void label_read(void)
+{
+    static const struct {
+        const char *label;
+        uint32_t number;
+        uint64_t place;
+    } wrong[] = {
+        {"", TISHKOLAN_LABEL_PREFIX, 0},
+        {"c", TISHKOLAN_LABEL_PREFIX, 1},
+        {"cx", TISHKOLAN_LABEL_PREFIX, 2},
+        {"cx3d", TISHKOLAN_LABEL_PREFIX, 4},
+        {"cy", TISHKOLAN_LABEL_PREFIX, 1},
+        {"dx3d1", TISHKOLAN_LABEL_PREFIX, 0},
+        {"cx3d2", TISHKOLAN_LABEL_PREFIX, 4},
+        {" cx3d1qqqqqqqqqqqqqqqqqqqqqqqqqqchrr7t", TISHKOLAN_LABEL_PREFIX, 0},
+        {"cX4d1", TISHKOLAN_LABEL_PREFIX, 2}, /* before the mixed case at 1 */
+        {"A1LQFN3A", TISHKOLAN_LABEL_PREFIX, 0}, /* a string of BIP 350 */
+        {"cX3d1", TISHKOLAN_LABEL_MIXED_CASE, 1},
+        {"cx3d1B", TISHKOLAN_LABEL_MIXED_CASE, 5}, /* before the character */
+        {"CX3D1qb", TISHKOLAN_LABEL_MIXED_CASE, 5},
+        {"cx3d1b", TISHKOLAN_LABEL_CHARACTER, 5},
+        {"cx3d1\x80", TISHKOLAN_LABEL_CHARACTER, 5},
+        {"cx3d11qqqqqqqqqqqqqqqqqqqqqqqqqyssm7c", TISHKOLAN_LABEL_CHARACTER, 5}, /* valid by BIP 350, with the prefix cx3d1 */
+        {"cx3d1qqqqqqqqqqqqqqqqqqqqqqqqq1xq64ja", TISHKOLAN_LABEL_CHARACTER, 30},
+        {"cx3d1", TISHKOLAN_LABEL_LENGTH, 5},
+        {"CX3D1", TISHKOLAN_LABEL_LENGTH, 5},
+        {"cx3d1qqqqqqqqqqqqqqqqqqqqqqqqqqchrr7", TISHKOLAN_LABEL_LENGTH, 36},
+        {"cx3d1qqqqqqqqqqqqqqqqqqqqqqqqqqqj8dgpk", TISHKOLAN_LABEL_LENGTH, 38}, /* of 27 values, its checksum right */
+        {"cx3d1qqqqqqqqqqqqqqqqqqqqqqqqqqdtn0mf", TISHKOLAN_LABEL_CHECKSUM, 37}, /* that of Bech32 */
+        {"cx3d1qqqqqqqqqqqqqqqqqqqqqqqqqp9phkrq", TISHKOLAN_LABEL_CHECKSUM, 37}, /* before the padding */
+        {"cx3d1qqqqqqqqqqqqqqqqqqqqqqqqqp9phkre", TISHKOLAN_LABEL_PADDING, 30},
+        {"cx3d1qqqqqqqqqqqqqqqqqqqqqqqqqztjzqdx", TISHKOLAN_LABEL_PADDING, 30},
+        {"CX3D1QQQQQQQQQQQQQQQQQQQQQQQQQRKYK4S5", TISHKOLAN_LABEL_PADDING, 30}};
+    static char longer[100000];
+    uint8_t out[CELL];
+
+    for (size_t place = 0; place < sizeof wrong / sizeof wrong[0]; place++)
+        CHECK(mistyped(wrong[place].label, strlen(wrong[place].label), wrong[place].number, wrong[place].place));
+    CHECK(mistyped(NULL, 0, TISHKOLAN_LABEL_PREFIX, 0));
+    CHECK(mistyped_at(20, 'B', TISHKOLAN_LABEL_MIXED_CASE, 20));
+    CHECK(mistyped_at(20, 'b', TISHKOLAN_LABEL_CHARACTER, 20));
+    CHECK(mistyped_at(20, '1', TISHKOLAN_LABEL_CHARACTER, 20));
+    CHECK(mistyped_at(20, '\0', TISHKOLAN_LABEL_CHARACTER, 20));
+    CHECK(mistyped_at(20, (char)('q' + 128), TISHKOLAN_LABEL_CHARACTER, 20));
+    CHECK(mistyped_at(20, 'p', TISHKOLAN_LABEL_CHECKSUM, 37));
+    CHECK(mistyped_at(36, 'T', TISHKOLAN_LABEL_MIXED_CASE, 36));
+    /* Behind the 37th character. */
+    CHECK(mistyped_at(37, 'Q', TISHKOLAN_LABEL_MIXED_CASE, 37));
+    CHECK(mistyped_at(37, '!', TISHKOLAN_LABEL_CHARACTER, 37));
+    CHECK(mistyped_at(37, '\n', TISHKOLAN_LABEL_CHARACTER, 37));
+    CHECK(mistyped_at(37, '\0', TISHKOLAN_LABEL_CHARACTER, 37));
+    CHECK(mistyped_at(37, 'q', TISHKOLAN_LABEL_LENGTH, 38));
+
+    /* In a long string all places are told, and all characters come before the length. */
+    memset(longer, 'q', sizeof longer);
+    memcpy(longer, zero_label, LABEL);
+    CHECK(mistyped(longer, sizeof longer, TISHKOLAN_LABEL_LENGTH, sizeof longer));
+    longer[sizeof longer - 1] = '1';
+    CHECK(mistyped(longer, sizeof longer, TISHKOLAN_LABEL_CHARACTER, sizeof longer - 1));
+    longer[sizeof longer - 2] = 'I';
+    CHECK(mistyped(longer, sizeof longer, TISHKOLAN_LABEL_MIXED_CASE, sizeof longer - 2));
+
+    /* NO_ROOM is the last, and has no place. */
+    fill(out, sizeof out);
+    for (size_t room = 0; room < CELL; room += CELL - 1) {
+        const tishkolan_place_answer answer = tishkolan_cell_from_bech32m((const uint8_t *)zero_label, LABEL, room == 0 ? NULL : out, room);
+        CHECK(no_room(answer.refusal) && answer.place == 0);
+    }
+    CHECK(untouched(out, sizeof out));
+
+    /* Each refusal has a name of its own. */
+    for (uint32_t number = TISHKOLAN_LABEL_PREFIX; number <= TISHKOLAN_LABEL_PADDING; number++)
+        for (uint32_t other = number + 1; other <= TISHKOLAN_LABEL_PADDING + 1; other++)
+            CHECK(strcmp(tishkolan_refusal_name(number), tishkolan_refusal_name(other)) != 0);
+}
+
 int main(void)
 {
     version();
@@ -486,6 +639,8 @@ int main(void)
     cell_ancestor();
     cell_between();
     cell_distances();
+    label_written();
+    label_read();
     printf("face: %d claims hold, %d do not\n", passed, failed);
     return failed != 0;
 }

@@ -29,6 +29,7 @@ enum {
 static uint8_t first_cell[SOURCE], second_cell[SOURCE], new_cell[SOURCE], line_end[SOURCE], near_cell[SOURCE];
 static uint8_t flag_table[SOURCE], value_table[SOURCE], shut_table[SOURCE], pattern[SOURCE];
 static uint8_t list[SOURCE], route[SOURCE], route_goal[SOURCE], file[SOURCE];
+static uint8_t label[SOURCE], ended_label[SOURCE]; /* behind the first stand characters of labels, behind the other none */
 static uint64_t route_cost;
 static size_t parents[MOST_CELLS + 1]; /* of the first so many cells of the value table */
 
@@ -64,7 +65,7 @@ typedef struct {
     const char *name;
     void (*make)(void);
     uint32_t (*due)(void); /* the refusal's number and 256 times its room, or ANY */
-    uint32_t refusals;     /* a bit for each number that the header names */
+    uint64_t refusals;     /* a bit for each number that the header names */
     int buffers, numbers;
     lent buffer[BUFFERS];
     named number[NUMBERS];
@@ -154,6 +155,30 @@ static void cell_lattice_coord(void)
 
     said = answer.refusal;
     fields_hold = answer.x == 0 && answer.y == 0 && answer.z == 0;
+}
+
+static void cell_to_bech32m(void) { front[1] = TISHKOLAN_LABEL_BYTES; said = tishkolan_cell_to_bech32m(B(0), B(1)); }
+
+static void cell_from_bech32m(void)
+{
+    const tishkolan_place_answer answer = tishkolan_cell_from_bech32m(B(0), B(1));
+
+    front[1] = CELL;
+    said = answer.refusal;
+    fields_hold = answer.place == (said.number < TISHKOLAN_LABEL_PREFIX               ? 0
+                                   : said.number == TISHKOLAN_LABEL_CHARACTER ? TISHKOLAN_LABEL_BYTES
+                                                                              : length[0]);
+}
+
+static uint32_t of_label(void)
+{
+    if (length[0] < strlen("cx3d1"))
+        return TISHKOLAN_LABEL_PREFIX;
+    if (length[0] > TISHKOLAN_LABEL_BYTES && current->buffer[0].source == ended_label)
+        return TISHKOLAN_LABEL_CHARACTER;
+    if (length[0] != TISHKOLAN_LABEL_BYTES)
+        return TISHKOLAN_LABEL_LENGTH;
+    return length[1] < CELL ? no_room_of(3) : 0;
 }
 
 static uint32_t of_points(void)
@@ -478,8 +503,10 @@ static uint32_t of_search(void)
 
 /* ---- the calls, as the header has them */
 
-#define N(name) (1u << TISHKOLAN_##name)
+#define N(name) ((uint64_t)1 << TISHKOLAN_##name)
 #define ONE(source) {GIVEN, 1, source, CELL, -1}
+#define NAME(source) {GIVEN, 1, source, TISHKOLAN_LABEL_BYTES, -1}
+#define OF_LABEL (N(LABEL_PREFIX) | N(LABEL_MIXED_CASE) | N(LABEL_CHARACTER) | N(LABEL_LENGTH) | N(LABEL_CHECKSUM) | N(LABEL_PADDING))
 #define LAYER(role, source, which) {role, 1, source, 6 * VALUE, which}
 #define TO(elements, size) {OUT, size, pattern, elements, -1}
 #define IN(bytes) {SPACE, 1, pattern, bytes, -1}
@@ -503,6 +530,9 @@ static const call all[] = {
     {"cell_between", cell_between, of_cells, N(BAD_LIST) | N(INVALID_PARITY) | N(COORD_OVERFLOW), LENT(2){ONE(first_cell), ONE(second_cell)}, .numbers = 0},
     {"cell_distance", cell_distance, of_cells, N(BAD_LIST) | N(INVALID_PARITY) | N(COORD_OVERFLOW), LENT(2){ONE(first_cell), ONE(second_cell)}, .numbers = 0},
     {"cell_manhattan_distance", cell_manhattan, of_cells, N(BAD_LIST) | N(INVALID_PARITY) | N(COORD_OVERFLOW), LENT(2){ONE(first_cell), ONE(second_cell)}, .numbers = 0},
+    {"cell_to_bech32m", cell_to_bech32m, of_cells, N(BAD_LIST) | N(NO_ROOM), LENT(2){ONE(first_cell), TO(TISHKOLAN_LABEL_BYTES, 1)}, .numbers = 0},
+    {"cell_from_bech32m", cell_from_bech32m, of_label, OF_LABEL | N(NO_ROOM), LENT(2){NAME(label), TO(CELL, 1)}, .numbers = 0},
+    {"cell_from_bech32m, nothing behind it", cell_from_bech32m, of_label, OF_LABEL | N(NO_ROOM), LENT(2){NAME(ended_label), TO(CELL, 1)}, .numbers = 0},
 
     {"flags_set", flags_set, of_set, N(BAD_LIST) | N(BAD_LAYER) | N(NO_ROOM), LENT(2){LAYER(FLAGS_CHANGED, flag_table, 0), ONE(first_cell)}, WITH(1){{COUNT, 3}}},
     {"flags_set, a new cell", flags_set, of_set, N(BAD_LIST) | N(BAD_LAYER) | N(NO_ROOM), LENT(2){LAYER(FLAGS_CHANGED, flag_table, 0), ONE(new_cell)}, WITH(1){{COUNT, 3}}},
@@ -586,7 +616,7 @@ static void judge(void)
     calls++;
     answers += is_answer;
     HOLDS(fields_hold);
-    HOLDS(is_answer || (said.number < 32 && (current->refusals >> said.number & 1) != 0));
+    HOLDS(is_answer || (said.number < 64 && (current->refusals >> said.number & 1) != 0));
     HOLDS(due == ANY || said.number + 256 * said.room == due);
     HOLDS((said.room != 0) == (said.number == TISHKOLAN_NO_ROOM) && said.x == 0 && said.y == 0 && said.z == 0);
     for (int place = 0; place < current->buffers; place++) {
@@ -729,7 +759,7 @@ static void unlent(void)
     enum { ALLOWED = N(ANSWERED) | N(INVALID_PARITY) | N(COORD_OVERFLOW), RANGE = N(ANSWERED) | N(OUT_OF_RANGE) };
 
     doing = "a call that is lent nothing";
-#define AMONG(refusal_, set_) (((uint32_t)(set_) >> (refusal_).number & 1) != 0)
+#define AMONG(refusal_, set_) (((uint64_t)(set_) >> (refusal_).number & 1) != 0)
     for (int i = 0; i < edges * edges * edges; i++) {
         const int32_t x = edge[i % edges], y = edge[i / edges % edges], z = edge[i / edges / edges], w = edge[(i * 7 + 3) % edges];
         const bool valid = (x & 1) == (y & 1) && (y & 1) == (z & 1);
@@ -819,6 +849,9 @@ static void lay_sources(void)
     for (int i = 0; i + 1 < ROUTE; i++)
         sum += tishkolan_double_of(tishkolan_cell_distance(route + i * CELL, CELL, route + (i + 1) * CELL, CELL).bits);
     route_cost = tishkolan_bits_of(sum);
+    memset(label, 'q', SOURCE), fill(ended_label, SOURCE);
+    memcpy(label, "cx3d1qqqqqqqqqqqqqqqqqqqqqqqqqqchrr7t", TISHKOLAN_LABEL_BYTES);
+    memcpy(ended_label, label, TISHKOLAN_LABEL_BYTES);
     CHECK(tishkolan_survey_write(flag_table, SOURCE, 3, value_table, SOURCE, 3, file, FILE_BYTES).length == FILE_BYTES);
     /* The parents of a row of cells are a row themselves. */
     for (size_t cells = 1; cells <= MOST_CELLS; cells++) {

@@ -30,6 +30,7 @@ static uint8_t list[LIST * CELL], file[TISHKOLAN_FILE_BYTES], out[TISHKOLAN_FILE
 static uint8_t known[TISHKOLAN_SEARCH_KNOWN_BYTES(ROOM)], waiting[TISHKOLAN_SEARCH_WAITING_BYTES(ROOM)];
 static uint8_t ring[TISHKOLAN_RING_BYTES(ROOM)];
 static uint8_t here[CELL], far[CELL], fine[CELL], odd[CELL], missing[CELL], mixed[CELL], edge[CELL], end[CELL], first[CELL];
+static uint8_t label[TISHKOLAN_LABEL_BYTES], mistyped[TISHKOLAN_LABEL_BYTES];
 static int32_t numbers[42];
 static uint64_t cost;
 static size_t file_length, walls;
@@ -62,6 +63,8 @@ static void prepare(void)
     lay(mixed, 3, 0, 1, 0, 0);
     lay(edge, 3, 2147483646, 0, 0, 0);
     lay(first, 3, 0, 0, 4096, 0);
+    memcpy(label, "cx3d1qqqqqq0lllll7qqqqqqs5hqrqq75s4gn", sizeof label);
+    memcpy(mistyped, "cx3d1qqqqqq0lllll7qqqqqqs5hqrqq75s4gg", sizeof mistyped);
     for (int i = 0; i < MOST; i++) {
         lay(flags + i * FLAG, 3, 2 * i, 0, 4096, 0); /* far from every route */
         put(flags + i * FLAG + CELL, 1, 4);
@@ -198,6 +201,14 @@ CALL(tishkolan_cell_distance, WHOLE(here), WHOLE(end))
 CALL(tishkolan_cell_distance, WHOLE(here), WHOLE(mixed))
 CALL(tishkolan_cell_manhattan_distance, WHOLE(here), WHOLE(end))
 CALL(tishkolan_cell_manhattan_distance, WHOLE(here), WHOLE(mixed))
+CALL(tishkolan_cell_to_bech32m, WHOLE(odd), WHOLE(out))
+CALL(tishkolan_cell_to_bech32m, WHOLE(odd), out, 7)
+CALL(tishkolan_cell_to_bech32m, odd, 3, WHOLE(out))
+CALL(tishkolan_cell_from_bech32m, WHOLE(label), WHOLE(out))
+CALL(tishkolan_cell_from_bech32m, WHOLE(label), out, 7)
+CALL(tishkolan_cell_from_bech32m, WHOLE(mistyped), WHOLE(out))
+CALL(tishkolan_cell_from_bech32m, label, 3, WHOLE(out))
+CALL(tishkolan_cell_from_bech32m, label, 30, WHOLE(out))
 CALL(tishkolan_has_flag, 5, 1)
 CALL(tishkolan_set_flag, 4, 1)
 CALL(tishkolan_clear_flag, 5, 1)
@@ -313,6 +324,7 @@ static bool answer(void)
 
     prepare();
     all &= tishkolan_cell_ancestor(WHOLE(odd), 0, WHOLE(out)).number == 0;
+    all &= tishkolan_cell_from_bech32m(WHOLE(label), WHOLE(out)).refusal.number == 0;
     all &= tishkolan_values_aggregate(WHOLE(values), MOST, WHOLE(list), TISHKOLAN_MEDIAN).refusal.number == 0;
     all &= tishkolan_values_rollup(WHOLE(heap_of_values), MOST, TISHKOLAN_MEDIAN, WHOLE(coarse), 0).count == 1;
     all &= tishkolan_values_rollup(WHOLE(values), MOST, TISHKOLAN_MEDIAN, WHOLE(coarse), 0).count > 1;

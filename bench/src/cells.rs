@@ -8,14 +8,14 @@ use original::id::CellID;
 use original::lattice::{Lattice, LatticeCoord};
 use std::hint::black_box;
 
-const INPUTS: usize = 4096;
+pub const INPUTS: usize = 4096;
 
 fn mix_point(x: i32, y: i32, z: i32) -> u64 {
     mix_all([x, y, z].map(|number| number as u64))
 }
 
 /// One line: the calls on all inputs.
-fn row<T: Copy>(
+pub fn row<T: Copy>(
     name: &str,
     inputs: &[T],
     mut library: impl FnMut(T) -> u64,

@@ -49,6 +49,13 @@ pub struct FieldsAnswer {
 
 #[repr(C)]
 #[derive(Clone, Copy)]
+pub struct PlaceAnswer {
+    pub refusal: Refusal,
+    pub place: u64,
+}
+
+#[repr(C)]
+#[derive(Clone, Copy)]
 pub struct CountAnswer {
     pub refusal: Refusal,
     pub count: u64,
@@ -109,6 +116,8 @@ extern "C" {
     pub fn tishkolan_cell_parent(cell: *const u8, length: usize, out: *mut u8, out_length: usize) -> Refusal;
     pub fn tishkolan_cell_distance(first: *const u8, length: usize, second: *const u8, second_length: usize) -> BitsAnswer;
     pub fn tishkolan_cell_manhattan_distance(first: *const u8, length: usize, second: *const u8, second_length: usize) -> NumberAnswer;
+    pub fn tishkolan_cell_to_bech32m(cell: *const u8, length: usize, out: *mut u8, out_length: usize) -> Refusal;
+    pub fn tishkolan_cell_from_bech32m(label: *const u8, length: usize, out: *mut u8, out_length: usize) -> PlaceAnswer;
 
     pub fn tishkolan_flags_set(table: *mut u8, length: usize, count: usize, cell: *const u8, cell_length: usize, flags: u32) -> CountAnswer;
     pub fn tishkolan_flags_get(table: *const u8, length: usize, count: usize, cell: *const u8, cell_length: usize) -> KeptAnswer;

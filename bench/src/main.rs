@@ -2,16 +2,18 @@
 //! the same inputs, in turn, in one run. Prints nanoseconds per call and the library's time over the
 //! Rust's. The two must give the same answers.
 //!
-//!   bench [cells] [layers] [aggregates] [survey] [routes] [rings] [lines] [searches]    those alone
+//!   bench [cells] [labels] [layers] [aggregates] [survey] [routes] [rings] [lines] [searches]    those alone
 
 #[cfg(aggregates)]
 mod aggregates;
 mod cells;
 #[cfg_attr(
-    not(all(aggregates, survey, routes, rings, lines, searches)),
+    not(all(labels, aggregates, survey, routes, rings, lines, searches)),
     allow(dead_code)
 )]
 mod face;
+#[cfg(labels)]
+mod labels;
 mod layers;
 #[cfg(lines)]
 mod lines;
@@ -24,6 +26,13 @@ mod searches;
 #[cfg(survey)]
 mod survey;
 mod timing;
+
+#[cfg(not(labels))]
+mod labels {
+    pub fn rows() {
+        println!("labels: not in this library");
+    }
+}
 
 #[cfg(not(aggregates))]
 mod aggregates {
@@ -73,8 +82,9 @@ fn main() {
         "{:38} {:>11} {:>11} {:>8} {:>11}",
         "ns per call", "library", "Rust", "ratio", "of it test"
     );
-    let groups: [(&str, fn()); 8] = [
+    let groups: [(&str, fn()); 9] = [
         ("cells", cells::rows),
+        ("labels", labels::rows),
         ("layers", layers::rows),
         ("aggregates", aggregates::rows),
         ("survey", survey::rows),

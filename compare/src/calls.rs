@@ -28,6 +28,8 @@ pub enum Call {
     CellBetween = 22,
     CellDistance = 23,
     CellManhattanDistance = 24,
+    CellToBech32m = 25,
+    CellFromBech32m = 26,
 }
 
 /// What a parameter of a call is.
@@ -40,10 +42,12 @@ pub enum Parameter {
     U8,
     /// The next cell: a pointer and a length.
     Cell,
+    /// The label, which is lent as the first cell is: bytes of any length.
+    Label,
 }
 
 impl Call {
-    pub const ALL: [Call; 24] = [
+    pub const ALL: [Call; 26] = [
         Call::SquareRoot,
         Call::Parity,
         Call::Opposite,
@@ -68,6 +72,8 @@ impl Call {
         Call::CellBetween,
         Call::CellDistance,
         Call::CellManhattanDistance,
+        Call::CellToBech32m,
+        Call::CellFromBech32m,
     ];
 
     pub fn number(self) -> u8 {
@@ -101,6 +107,8 @@ impl Call {
             Call::CellBetween => "cell_between",
             Call::CellDistance => "cell_distance",
             Call::CellManhattanDistance => "cell_manhattan_distance",
+            Call::CellToBech32m => "cell_to_bech32m",
+            Call::CellFromBech32m => "cell_from_bech32m",
         }
     }
 
@@ -127,7 +135,9 @@ impl Call {
             | Call::CellIsPlain
             | Call::CellNeighbors
             | Call::CellChildren
-            | Call::CellParent => &[Cell],
+            | Call::CellParent
+            | Call::CellToBech32m => &[Cell],
+            Call::CellFromBech32m => &[Label],
             Call::CellAncestor => &[Cell, U8],
             Call::CellCompare
             | Call::CellBetween
@@ -150,9 +160,12 @@ impl Call {
         match self {
             Call::LatticeNeighbors => Some((4, 42)),
             Call::LatticeChildren => Some((4, 24)),
-            Call::CellNew | Call::CellFromCoords | Call::CellParent | Call::CellAncestor => {
-                Some((1, 16))
-            }
+            Call::CellNew
+            | Call::CellFromCoords
+            | Call::CellParent
+            | Call::CellAncestor
+            | Call::CellFromBech32m => Some((1, 16)),
+            Call::CellToBech32m => Some((1, 37)),
             Call::CellNeighbors => Some((1, 224)),
             Call::CellChildren => Some((1, 128)),
             _ => None,
@@ -160,21 +173,23 @@ impl Call {
     }
 }
 
-/// The bytes lent as one cell: of any length up to 48.
+/// The bytes lent as one cell or as a label: of any length up to this.
+pub const LONGEST_LENT: usize = 128;
+
 #[derive(Debug, Clone, Copy, PartialEq, Eq)]
 pub struct Lent {
-    bytes: [u8; 48],
+    bytes: [u8; LONGEST_LENT],
     length: u8,
 }
 
 impl Lent {
     pub const NONE: Lent = Lent {
-        bytes: [0; 48],
+        bytes: [0; LONGEST_LENT],
         length: 0,
     };
 
     pub fn of(slice: &[u8]) -> Lent {
-        let mut bytes = [0; 48];
+        let mut bytes = [0; LONGEST_LENT];
         bytes[..slice.len()].copy_from_slice(slice);
         Lent {
             bytes,
@@ -224,7 +239,7 @@ impl Request {
         }
     }
 
-    /// A request on one cell.
+    /// A request on one cell, or on a label.
     pub fn cell(call: Call, cell: &[u8]) -> Request {
         Request {
             first: Lent::of(cell),
@@ -283,6 +298,11 @@ impl Request {
             if *parameter == Parameter::Cell {
                 continue;
             }
+            if *parameter == Parameter::Label {
+                let bytes = self.first.slice().iter().map(|&byte| u128::from(byte));
+                size += (u128::from(self.first.length) << 34) + bytes.sum::<u128>();
+                continue;
+            }
             size += match parameter {
                 Parameter::Bits => {
                     let value = self.double(next).abs();
@@ -324,6 +344,10 @@ impl Request {
                 Parameter::Cell => {
                     let lent = cells.next().unwrap().slice();
                     words.push(format!("{} ({})", hex(lent), lent.len()));
+                }
+                Parameter::Label => {
+                    let lent = self.first.slice();
+                    words.push(format!("\"{}\" ({})", lent.escape_ascii(), lent.len()));
                 }
                 Parameter::Bits => {
                     words.push(format!(

@@ -1,9 +1,11 @@
 //! What each call has to answer: the oracle's answer, a panic of it counted as the refusal that
-//! the specification names; where the Rust has no such call, the specification's own words.
+//! the specification names; where the Rust has no such call, the specification's own words. Of labels
+//! BIP 350 decides, by labels/reading.rs, and the oracle is held to that.
 
 #![allow(deprecated)]
 
 use crate::calls::{Call, Request};
+use crate::labels::reading;
 use oracle::error::Error;
 use oracle::id::CellID;
 use oracle::lattice::{Lattice, LatticeCoord, Parity};
@@ -23,6 +25,12 @@ pub const BAD_FILE: u32 = 12;
 pub const BAD_LIST: u32 = 13;
 pub const BAD_LAYER: u32 = 14;
 pub const BAD_RULE: u32 = 15;
+pub const LABEL_PREFIX: u32 = 30;
+pub const LABEL_MIXED_CASE: u32 = 31;
+pub const LABEL_CHARACTER: u32 = 32;
+pub const LABEL_LENGTH: u32 = 33;
+pub const LABEL_CHECKSUM: u32 = 34;
+pub const LABEL_PADDING: u32 = 35;
 
 /// A refusal with everything that it carries; all zero where the call answers.
 #[derive(Debug, Clone, Copy, PartialEq, Eq, Default)]
@@ -76,7 +84,8 @@ impl Refusal {
 #[derive(Debug, Clone, PartialEq, Eq, Default)]
 pub struct Answer {
     pub refusal: Refusal,
-    /// The value's numbers: one, three of a point, or the eight fields of a cell.
+    /// The value's numbers: one, three of a point, or the eight fields of a cell. Of a refusal the
+    /// place that it has in an answer of its own.
     pub values: [i64; 8],
     /// The bytes written to the front of the buffer, each element little-endian.
     pub front: Vec<u8>,
@@ -208,6 +217,36 @@ fn ancestor(cell: CellID, resolution: u8) -> Said {
     cells(vec![at])
 }
 
+/// A label, which the reading of BIP 350 and the Rust write the same.
+fn label_of(cell: [u8; 16]) -> Said {
+    let label = reading::write(cell);
+    assert!(
+        reading::agrees_in_writing(cell, &label),
+        "the reading departs from the oracle: the label of {cell:?}"
+    );
+    listed(label)
+}
+
+/// BIP 350 decides: the cell by the reading, which the Rust is held to but for its named differences.
+fn labelled(label: &[u8]) -> Said {
+    assert!(
+        reading::agrees_in_reading(label),
+        "the oracle differs from the reading otherwise than docs/DIFFERENCES.md says: \"{}\"",
+        label.escape_ascii()
+    );
+    match reading::read(label) {
+        Ok(cell) => listed(cell.to_vec()),
+        Err(fault) => {
+            let mut answer = Answer {
+                refusal: Refusal::plain(fault.number),
+                ..Answer::default()
+            };
+            answer.values[0] = fault.place as i64;
+            Ok(answer)
+        }
+    }
+}
+
 fn say(request: &Request) -> Said {
     let call = request.call;
     // A cell of another length than 16 comes before anything else.
@@ -316,6 +355,8 @@ fn say(request: &Request) -> Said {
         },
         Call::CellDistance => distance(first.lattice_coord()?, second.lattice_coord()?),
         Call::CellManhattanDistance => manhattan(first.lattice_coord()?, second.lattice_coord()?),
+        Call::CellToBech32m => label_of(first.to_bytes()),
+        Call::CellFromBech32m => labelled(request.first.slice()),
     }
 }
 

@@ -2,6 +2,7 @@
 //! inputs, and random ones.
 
 use crate::calls::{Call, Request};
+use crate::labels;
 use crate::random::Random;
 
 type Sink<'a> = crate::side_by_side::Sink<'a, Request>;
@@ -18,13 +19,14 @@ const ON_A_POINT: [Call; 6] = [
     Call::LatticeParent,
     Call::ToPhysical,
 ];
-const ON_A_CELL: [Call; 6] = [
+const ON_A_CELL: [Call; 7] = [
     Call::CellFields,
     Call::CellLatticeCoord,
     Call::CellIsPlain,
     Call::CellNeighbors,
     Call::CellChildren,
     Call::CellParent,
+    Call::CellToBech32m,
 ];
 const ON_TWO_CELLS: [Call; 4] = [
     Call::CellCompare,
@@ -136,6 +138,7 @@ pub fn limits(sink: Sink) {
     snap_limits(sink);
     root_limits(sink);
     lengths(sink);
+    labels::inputs::limits(sink);
     for parity in (0..300).chain([u32::MAX, u32::MAX - 1, 1 << 31, 1 << 8, 1 << 16, 1 << 24]) {
         sink(Request::new(Call::Opposite, &[parity.into()]));
     }
@@ -436,6 +439,9 @@ fn lengths(sink: Sink) {
         let Some((_, exact)) = call.buffer() else {
             continue;
         };
+        if call == Call::CellFromBech32m {
+            continue; // a label has inputs of its own
+        }
         for room in 0..=exact + 24 {
             for null in [false, true] {
                 for fill in [0x00, 0xA5, 0xFF] {
@@ -653,7 +659,7 @@ impl Random {
         cell(self.next() as u8, resolution, point, rest)
     }
 
-    fn cell(&mut self) -> [u8; 16] {
+    pub(crate) fn cell(&mut self) -> [u8; 16] {
         if self.below(8) == 0 {
             let high = self.next();
             return (u128::from(high) << 64 | u128::from(self.next())).to_be_bytes();
@@ -825,6 +831,10 @@ fn one(random: &mut Random, call: Call) -> Request {
             }
             let request = Request::new(call, &numbers);
             random.lend(request)
+        }
+        Call::CellFromBech32m => {
+            let label = labels::inputs::random(random);
+            random.lend(Request::cell(call, &label))
         }
         _ if call.cells() == 0 => {
             let point = random.point();

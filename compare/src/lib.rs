@@ -4,6 +4,7 @@
 pub mod calls;
 pub mod expected;
 pub mod inputs;
+pub mod labels;
 pub mod layers;
 pub mod lent;
 mod library;

@@ -1,4 +1,4 @@
-//! Compares the calls of include/tishkolan.h on points and cells with the oracle: answers,
+//! Compares the calls of include/tishkolan.h on points, cells and labels with the oracle: answers,
 //! refusals with all that they carry, and every byte of lent buffers and beside them.
 //!
 //!     compare [--seconds N] [--seed S] [--library COMMAND...]

@@ -14,7 +14,7 @@ const BATCH_BYTES: usize = 4 << 20;
 const ENDINGS: u64 = 50;
 
 /// The numbers under which answers are counted: those of refusals and verdicts.
-const KINDS: usize = 26;
+const KINDS: usize = 36;
 
 /// Where requests go.
 pub type Sink<'a, R> = &'a mut dyn FnMut(R);

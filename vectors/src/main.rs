@@ -5,7 +5,7 @@
 //!     vectors FOLDER calls  answers.calls, .. there instead: the calls of each list in one batch, as the programs of
 //!                           compare/*.c take it, so that two archives can be asked the same
 //!
-//! `layers.bin` is described in layers.rs, `paths.bin` in paths.rs, `searches.bin` in searches.rs. `answers.bin` is records of 64 bytes, at most 1,000, all numbers big-endian:
+//! `layers.bin` is described in layers.rs, `paths.bin` in paths.rs, `searches.bin` in searches.rs. `answers.bin` is records of 64 bytes, at most 1,024, all numbers big-endian:
 //!
 //! | bytes | what |
 //! |---|---|
@@ -19,6 +19,10 @@
 //! | 7 | 0 |
 //! | 8..39 | arguments in the order of include/tishkolan.h, without lengths and buffers: bits of a double 8 bytes, i32 and u32 4, u8 1; the rest 0. The first cell slice begins at byte 8, the second at byte 24, and each has its length of bytes, whatever lies there; the resolution of 21 is byte 24 |
 //! | 40..63 | the answer, the rest 0; where the call refuses, x, y, z of refusal 1, else 0 |
+//!
+//! Labels do not fit so. Of 25 the label that is the answer is at 24..60. Of 26 the label that is read begins at byte 8 and has
+//! its length, byte 2, at most 40; the answer is at 48..63, and where the call refuses its place, 8 bytes at 48. Neither
+//! carries coordinates. Their answers are those of compare/src/labels/reading.rs, to which the Rust is held.
 //!
 //! | no | call | answer |
 //! |---|---|---|
@@ -46,6 +50,8 @@
 //! | 22 | cell_between(first, second) | nothing |
 //! | 23 | cell_distance(first, second) | bits |
 //! | 24 | cell_manhattan_distance(first, second) | i32 |
+//! | 25 | cell_to_bech32m(cell) | the label, 37 bytes |
+//! | 26 | cell_from_bech32m(label) | the cell |
 
 mod layers;
 mod paths;
@@ -53,10 +59,12 @@ mod searches;
 
 use compare::calls::{Call, Parameter, Request};
 use compare::expected::{expected, quiet, Answer};
+use compare::labels::reading::{self, BECH32, BECH32M};
 use compare::random::Random;
 use compare::side_by_side::Asked;
 
 const RECORD: usize = 64;
+const MOST_LABEL: usize = 40;
 const MIN: i64 = i32::MIN as i64;
 const MAX: i64 = i32::MAX as i64;
 
@@ -121,19 +129,31 @@ fn record(request: &Request, answer: &Answer, index: usize) -> [u8; RECORD] {
                 arguments.extend(cell);
                 next -= 1;
             }
+            Parameter::Label => {
+                assert!(first.len() <= MOST_LABEL);
+                arguments.extend(first);
+                next -= 1;
+            }
         }
     }
     record[8..8 + arguments.len()].copy_from_slice(&arguments);
 
     let said = if answer.refusal.number == 0 {
         payload(request.call, answer, index)
+    } else if request.call == Call::CellFromBech32m {
+        answer.values[0].to_be_bytes().to_vec()
     } else {
         let refusal = answer.refusal;
         [refusal.x, refusal.y, refusal.z]
             .map(i32::to_be_bytes)
             .concat()
     };
-    record[40..40 + said.len()].copy_from_slice(&said);
+    let at = match request.call {
+        Call::CellToBech32m => 24,
+        Call::CellFromBech32m => 48,
+        _ => 40,
+    };
+    record[at..at + said.len()].copy_from_slice(&said);
     record
 }
 
@@ -164,9 +184,12 @@ fn payload(call: Call, answer: &Answer, index: usize) -> Vec<u8> {
             .flat_map(|word| word.iter().rev().copied())
             .collect(),
         Call::CellNeighbors | Call::CellChildren => answer.front[16 * index..][..16].to_vec(),
-        Call::CellNew | Call::CellFromCoords | Call::CellParent | Call::CellAncestor => {
-            answer.front.clone()
-        }
+        Call::CellNew
+        | Call::CellFromCoords
+        | Call::CellParent
+        | Call::CellAncestor
+        | Call::CellToBech32m
+        | Call::CellFromBech32m => answer.front.clone(),
         Call::CellBetween => Vec::new(),
     }
 }
@@ -579,6 +602,76 @@ fn cells(list: &mut List) {
     }
 }
 
+/// Labels of cells, written and read in both cases; then each refusal, in the order of the tests.
+fn labels(list: &mut List) {
+    for bytes in [
+        [0; 16],
+        [0xFF; 16],
+        cell(0, 3, [1, -1, 1], 0x0A5C),
+        cell(0, 3, [0, 0, 0], 0),
+        cell(7, 255, [0, 1, 0], 0xF008),
+        cell(255, 9, [MIN, MAX, 0x12345678], 0),
+        1u128.to_be_bytes(),
+        (1u128 << 127).to_be_bytes(),
+    ] {
+        list.add(Request::cell(Call::CellToBech32m, &bytes));
+        let label = reading::write(bytes);
+        for label in [label.clone(), label.to_ascii_uppercase()] {
+            list.add(Request::cell(Call::CellFromBech32m, &label));
+        }
+    }
+    let zero = reading::write([0; 16]);
+    for (length, room) in [(16, 0), (16, 36), (16, 38), (0, 0), (15, 37), (17, 37)] {
+        list.add(Request::cell(Call::CellToBech32m, &[0; 17][..length]).room(room));
+    }
+    for room in [0, 15, 17] {
+        list.add(Request::cell(Call::CellFromBech32m, &zero).room(room));
+    }
+
+    let with = |place: usize, byte: u8| {
+        let mut label = zero.clone();
+        label[place] = byte;
+        label
+    };
+    let and = |more: &[u8]| [&zero[..], more].concat();
+    let padded = |padding, constant| {
+        let values = reading::values([0; 16], padding);
+        reading::string(b"cx3d", &values, constant)
+    };
+    for label in [
+        b"".to_vec(),
+        b"cx".to_vec(),
+        b"cx3D".to_vec(),
+        b"cX4d1".to_vec(),
+        [b" ", &zero[..]].concat(),
+        with(4, b'l'),
+        with(1, b'X'),
+        with(20, b'B'),
+        with(36, b'T'),
+        and(b"Q"),
+        with(5, b'1'),
+        with(20, b'b'),
+        with(30, b'q' + 128),
+        and(b"!"),
+        and(b"\0"),
+        b"cx3d1".to_vec(),
+        zero[..36].to_vec(),
+        and(b"q"),
+        reading::string(b"cx3d", &[0; 27], BECH32M),
+        with(5, b'p'),
+        with(36, b'q'),
+        padded(0, BECH32),
+        padded(1, BECH32),
+        padded(1, BECH32M),
+        padded(2, BECH32M),
+        padded(3, BECH32M).to_ascii_uppercase(),
+    ] {
+        list.add(Request::cell(Call::CellFromBech32m, &label));
+    }
+    // A refusal of the label comes before the room.
+    list.add(Request::cell(Call::CellFromBech32m, &padded(1, BECH32M)).room(15));
+}
+
 /// Writes a file.
 fn write(folder: &str, name: &str, bytes: &[u8]) {
     let file = format!("{folder}/{name}");
@@ -605,9 +698,10 @@ fn main() {
     snaps(&mut list);
     distances(&mut list);
     cells(&mut list);
+    labels(&mut list);
     let answers = (list.bytes.len() / RECORD, list.bytes, list.calls);
     for (name, (records, bytes, batch), most) in [
-        ("answers", answers, 1000),
+        ("answers", answers, 1024),
         ("layers", layers::records(), 400),
         ("paths", paths::records(), 100),
         ("searches", searches::records(), 120),

@@ -4,7 +4,7 @@ use std::cmp::Ordering;
 use std::fmt;
 
 use crate::face;
-use crate::{Coord, Refusal};
+use crate::{Coord, Label, Refusal};
 
 /// A cell: 16 bytes, big-endian: z, y, x (32 bits each, two's complement), then reserved (4 bits),
 /// flags (8), exponent (4), resolution (8), frame (8). All 16 bytes make a cell; two cells are one
@@ -181,6 +181,35 @@ impl Cell {
     pub fn manhattan_distance(&self, other: &Cell) -> Result<i32, Refusal> {
         let said = face::cell_manhattan_distance(self, other);
         said.refusal.answer(said.value)
+    }
+
+    /// The cell's name on paper. Every cell has one, of mixed parity and with marks too.
+    ///
+    /// ```
+    /// use tishkolan::{Cell, LabelFault, Refusal};
+    ///
+    /// let cell = Cell(*b"\0\0\0\x01\xFF\xFF\xFF\xFF\0\0\0\x01\x0A\x5C\x03\x00");
+    /// let label = cell.to_bech32m();
+    /// assert_eq!(label.as_str(), "cx3d1qqqqqq0lllll7qqqqqqs5hqrqq75s4gn");
+    /// assert_eq!(Cell::from_bech32m(label), Ok(cell));
+    ///
+    /// // An o for the 0 that stands behind the q's.
+    /// let refused = Cell::from_bech32m("cx3d1qqqqqqolllll7qqqqqqs5hqrqq75s4gn").unwrap_err();
+    /// assert_eq!(refused, Refusal::BadLabel { fault: LabelFault::Character, place: 11 });
+    /// assert_eq!(refused.to_string(), "no label has the character at place 11");
+    /// ```
+    pub fn to_bech32m(&self) -> Label {
+        let mut out = Label([0; Label::LENGTH]);
+        face::cell_to_bech32m(self, &mut out);
+        out
+    }
+
+    /// The cell that a label names, which may be any bytes, in lower or in upper case.
+    ///
+    /// [`Refusal::BadLabel`], with the first fault in the order of [`LabelFault`](crate::LabelFault).
+    pub fn from_bech32m(label: impl AsRef<[u8]>) -> Result<Cell, Refusal> {
+        let mut out = Cell::default();
+        face::cell_from_bech32m(label.as_ref(), &mut out).answer(out)
     }
 }
 

@@ -7,7 +7,7 @@
 //! that a slice which is written overlaps no other. What is handed back is numbers, for which every
 //! pattern of bits is a value, or C's bool. The structs are those of the header, field by field.
 
-use crate::{Cell, Coord};
+use crate::{Cell, Coord, Label};
 
 /// What a call says beside its answer.
 #[repr(C)]
@@ -55,6 +55,12 @@ pub struct FieldsAnswer {
     pub flags: u8,
     pub reserved: u8,
     pub coord: Coord,
+}
+
+#[repr(C)]
+pub struct PlaceAnswer {
+    pub refusal: Told,
+    pub place: u64,
 }
 
 #[repr(C)]
@@ -139,6 +145,9 @@ unsafe extern "C" {
     fn tishkolan_cell_between(first: *const u8, first_length: usize, second: *const u8, second_length: usize) -> Told;
     fn tishkolan_cell_distance(first: *const u8, first_length: usize, second: *const u8, second_length: usize) -> BitsAnswer;
     fn tishkolan_cell_manhattan_distance(first: *const u8, first_length: usize, second: *const u8, second_length: usize) -> NumberAnswer;
+
+    fn tishkolan_cell_to_bech32m(cell: *const u8, cell_length: usize, out: *mut u8, out_length: usize) -> Told;
+    fn tishkolan_cell_from_bech32m(label: *const u8, label_length: usize, out: *mut u8, out_length: usize) -> PlaceAnswer;
 
     fn tishkolan_flags_set(table: *mut u8, table_length: usize, count: usize, cell: *const u8, cell_length: usize, flags: u32) -> CountAnswer;
     fn tishkolan_flags_get(table: *const u8, table_length: usize, count: usize, cell: *const u8, cell_length: usize) -> KeptAnswer;
@@ -308,6 +317,16 @@ pub fn cell_distance(Cell(a): &Cell, Cell(b): &Cell) -> BitsAnswer {
 
 pub fn cell_manhattan_distance(Cell(a): &Cell, Cell(b): &Cell) -> NumberAnswer {
     unsafe { tishkolan_cell_manhattan_distance(a.as_ptr(), a.len(), b.as_ptr(), b.len()) }
+}
+
+// ---- labels
+
+pub fn cell_to_bech32m(Cell(cell): &Cell, Label(out): &mut Label) -> Told {
+    unsafe { tishkolan_cell_to_bech32m(cell.as_ptr(), cell.len(), out.as_mut_ptr(), out.len()) }
+}
+
+pub fn cell_from_bech32m(label: &[u8], Cell(out): &mut Cell) -> PlaceAnswer {
+    unsafe { tishkolan_cell_from_bech32m(label.as_ptr(), label.len(), out.as_mut_ptr(), out.len()) }
 }
 
 // ---- layers: the same eight calls for flags and for values

@@ -1,5 +1,5 @@
-//! Tishkolan for Rust: cells of a body-centred cubic lattice, layers of what is kept of them, survey
-//! files, rings, lines, the route checker and the search.
+//! Tishkolan for Rust: cells of a body-centred cubic lattice, their labels on paper, layers of what is
+//! kept of them, survey files, rings, lines, the route checker and the search.
 //!
 //! Each function is one call of include/tishkolan.h, whose answers and refusals are proved; this crate
 //! is not proved but tested. It hands slices over and makes enums of numbers, and does nothing
@@ -34,6 +34,7 @@
 mod cell;
 #[allow(unsafe_code)]
 mod face;
+mod label;
 mod lattice;
 mod layer;
 mod listing;
@@ -43,10 +44,11 @@ mod search;
 mod survey;
 
 pub use cell::{Cell, Fields};
+pub use label::Label;
 pub use lattice::{square_root, Coord, Parity, Point};
 pub use layer::{Aggregate, FlagLayer, Flags, Kept, Layer, Records, ValueLayer, MOST_CELLS};
 pub use listing::{k_ring, k_shell, trace_line, RingWorkspace};
-pub use refusal::{Refusal, Room};
+pub use refusal::{LabelFault, Refusal, Room};
 pub use route::{route_choice, route_verdict, Choice, Claim, Rule, Verdict};
 pub use search::{astar, astar_with_limit, Route, SearchWorkspace};
 pub use survey::{load_survey, survey_bytes, write_survey};
@@ -54,7 +56,7 @@ pub use survey::{load_survey, survey_bytes, write_survey};
 /// The version of the archive that is linked: 1,000,000 times its major number, 1,000 times its minor one, and its patch.
 ///
 /// ```
-/// assert_eq!(tishkolan::version(), 2_000); // 0.2.0
+/// assert_eq!(tishkolan::version(), 3_000); // 0.3.0
 /// ```
 pub fn version() -> u32 {
     face::tishkolan_version()

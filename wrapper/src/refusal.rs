@@ -2,7 +2,7 @@
 
 use std::fmt;
 
-use crate::face::{LoadAnswer, SearchAnswer, Told};
+use crate::face::{LoadAnswer, PlaceAnswer, SearchAnswer, Told};
 use crate::Cell;
 
 /// Which room a call would have needed more of.
@@ -16,6 +16,23 @@ pub enum Room {
     Output = 3,
     /// In the table of a layer.
     Layer = 4,
+}
+
+/// What is wrong with a label, in the order of the tests.
+#[derive(Clone, Copy, PartialEq, Eq, Hash, Debug)]
+pub enum LabelFault {
+    /// It does not begin with `cx3d1`, case aside; or it ends before, and the place is its length.
+    Prefix = 30,
+    /// The letter at the place is not of the case of those before it.
+    MixedCase = 31,
+    /// The character at the place is in no label.
+    Character = 32,
+    /// It does not have 37 characters; the place is how many it has.
+    Length = 33,
+    /// Its checksum is wrong, as where a character is mistyped for another; the place is its length.
+    Checksum = 34,
+    /// The two bits behind the cell's are not zero; the place is 30.
+    Padding = 35,
 }
 
 /// Why a call did not answer. A call that refuses changes no layer and no output.
@@ -83,6 +100,13 @@ pub enum Refusal {
     BadLayer,
     /// The rule is neither of the two.
     BadRule,
+    /// The bytes are not a label.
+    BadLabel {
+        /// Why not.
+        fault: LabelFault,
+        /// The place of the first character at fault, from 0, or what the fault says.
+        place: u64,
+    },
     /// A number that this crate does not know: the archive is another version's.
     Other(u32),
 }
@@ -106,6 +130,7 @@ impl Refusal {
             Refusal::BadList => 13,
             Refusal::BadLayer => 14,
             Refusal::BadRule => 15,
+            Refusal::BadLabel { fault, .. } => *fault as u32,
             Refusal::Other(number) => *number,
         }
     }
@@ -147,6 +172,24 @@ impl Told {
             0 => Ok(answer),
             _ => Err(Refusal::of(self)),
         }
+    }
+}
+
+impl PlaceAnswer {
+    pub(crate) fn answer<T>(self, answer: T) -> Result<T, Refusal> {
+        let fault = match self.refusal.number {
+            30 => LabelFault::Prefix,
+            31 => LabelFault::MixedCase,
+            32 => LabelFault::Character,
+            33 => LabelFault::Length,
+            34 => LabelFault::Checksum,
+            35 => LabelFault::Padding,
+            _ => return self.refusal.answer(answer),
+        };
+        Err(Refusal::BadLabel {
+            fault,
+            place: self.place,
+        })
     }
 }
 
@@ -214,6 +257,24 @@ impl fmt::Display for Refusal {
             Refusal::BadList => to.write_str("the bytes are not a list of cells"),
             Refusal::BadLayer => to.write_str("the table and its count are not a layer"),
             Refusal::BadRule => to.write_str("the rule is neither of the two"),
+            Refusal::BadLabel { fault, place } => match fault {
+                LabelFault::Prefix => {
+                    write!(
+                        to,
+                        "the label does not begin with cx3d1, seen at place {place}"
+                    )
+                }
+                LabelFault::MixedCase => {
+                    write!(
+                        to,
+                        "the letter at place {place} is not of the case of those before it"
+                    )
+                }
+                LabelFault::Character => write!(to, "no label has the character at place {place}"),
+                LabelFault::Length => write!(to, "a label has 37 characters, not {place}"),
+                LabelFault::Checksum => to.write_str("the label's checksum is wrong"),
+                LabelFault::Padding => to.write_str("the label's padding is not zero"),
+            },
             Refusal::Other(number) => {
                 write!(to, "refusal {number}, which this crate does not know")
             }

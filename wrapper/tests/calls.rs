@@ -156,6 +156,28 @@ fn cells() {
 }
 
 #[test]
+fn labels() {
+    let mut mixed = Cell([0; 16]);
+    mixed.0[7] = 1;
+    mixed.0[12] = 0xF0;
+    for cell in [at(2, -4, 6), mixed, Cell([0; 16]), Cell([0xFF; 16])] {
+        let label = cell.to_bech32m();
+        assert_eq!(label.as_str().len(), Label::LENGTH);
+        assert_eq!(Cell::from_bech32m(label), Ok(cell));
+        assert_eq!(Cell::from_bech32m(label.as_str()), Ok(cell));
+        assert_eq!(
+            Cell::from_bech32m(label.to_string().to_uppercase()),
+            Ok(cell)
+        );
+    }
+    let label = Cell([0xFF; 16]).to_bech32m();
+    let text: &str = label.as_ref();
+    assert_eq!(text, "cx3d1llllllllllllllllllllllllluzkm08t");
+    assert_eq!(format!("{label:>40}"), format!("   {text}"));
+    assert_eq!(format!("{label:?}"), format!("Label({text})"));
+}
+
+#[test]
 fn flags() {
     let flags = Flags::NONE
         .set_flag(Flags::BLOCKED)

@@ -199,6 +199,41 @@ fn bad_list() {
     }
 }
 
+/// The zero cell's label.
+const ZERO: &str = "cx3d1qqqqqqqqqqqqqqqqqqqqqqqqqqchrr7t";
+
+#[test]
+fn bad_label() {
+    for (label, fault, place) in [
+        ("", LabelFault::Prefix, 0),
+        ("cx", LabelFault::Prefix, 2),
+        ("cX4d1", LabelFault::Prefix, 2),
+        ("cX3d1", LabelFault::MixedCase, 1),
+        (&format!("{ZERO}Q"), LabelFault::MixedCase, 37),
+        (&ZERO.replace("r7", "i7"), LabelFault::Character, 34),
+        (&format!("{ZERO}\n"), LabelFault::Character, 37),
+        (&format!("{ZERO}\u{e9}"), LabelFault::Character, 37),
+        (&ZERO[..36], LabelFault::Length, 36),
+        (&format!("{ZERO}q"), LabelFault::Length, 38),
+        (&ZERO.replace("r7", "s7"), LabelFault::Checksum, 37),
+        (
+            "cx3d1qqqqqqqqqqqqqqqqqqqqqqqqqp9phkre",
+            LabelFault::Padding,
+            30,
+        ),
+    ] {
+        let refused = Refusal::BadLabel { fault, place };
+        assert_eq!(Cell::from_bech32m(label), Err(refused), "{label}");
+    }
+    assert_eq!(
+        Cell::from_bech32m([0xFF; 5]),
+        Err(Refusal::BadLabel {
+            fault: LabelFault::Prefix,
+            place: 0
+        })
+    );
+}
+
 #[test]
 fn bad_file() {
     let (mut flag_table, mut value_table) = ([0; FlagLayer::bytes(1)], [0; ValueLayer::bytes(1)]);
@@ -422,7 +457,16 @@ fn numbers_and_words() {
         Refusal::BadLayer,
         Refusal::BadRule,
     ];
-    for (number, refusal) in (1..).zip(all) {
+    let faults = [
+        LabelFault::Prefix,
+        LabelFault::MixedCase,
+        LabelFault::Character,
+        LabelFault::Length,
+        LabelFault::Checksum,
+        LabelFault::Padding,
+    ];
+    let labels = faults.map(|fault| Refusal::BadLabel { fault, place: 9 });
+    for (number, refusal) in (1..).zip(all).chain((30..).zip(labels)) {
         assert_eq!(refusal.number(), number);
         let words: Box<dyn std::error::Error> = refusal.into();
         assert!(!words.to_string().is_empty());

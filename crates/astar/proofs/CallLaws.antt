@@ -12,7 +12,7 @@ use Rattle.refusal.specs.declared.Cell.{Cell}
 use Rattle.refusal.specs.declared.Room.the-variants as room
 use Rattle.refusal.specs.declared.Refusal.{Refusal}
 use Rattle.refusal.specs.declared.Refusal.the-variants.{NoRoom, BadWorkspace, BadLayer, BadRule}
-use Rattle.refusal.specs.Refusals.{rawOf}
+use Rattle.refusal.specs.Refusals.{rawOf, cellOf}
 use Rattle.lattice.specs.declared.Parity.{Parity}
 use Rattle.lattice.specs.declared.ParityAnswer.{ParityAnswer}
 use Rattle.lattice.specs.declared.ParityAnswer.the-variants as parity
@@ -31,9 +31,9 @@ use Rattle.cell_list.proofs.Laws.{cell-first}
 use Rattle.known.specs.Workspace.{isRoom, zeros, inRooms}
 use Rattle.known.proofs.WorkspaceLaws.{room-tested, zeros-same}
 use Rattle.search.specs.Search.{Result, found, none-found, run, begin}
-use Rattle.search.specs.Plan.{cellOf, distanceBits, planOf, atEnd, popsFor, searchOf, endpoints}
+use Rattle.search.specs.Plan.{distanceBits, planOf, atEnd, popsFor, searchOf, endpoints}
 use Rattle.search.proofs.Split.{foundBetween}
-use Rattle.search.proofs.NeighborSteps.{cell-raw}
+use Rattle.cell.proofs.Laws.{cell-raw}
 use Rattle.search.specs.SearchOutcome.{searched}
 use Rattle.search.specs.declared.SearchAnswer.{SearchAnswer}
 use Rattle.search.specs.declared.SearchAnswer.the-variants as answer

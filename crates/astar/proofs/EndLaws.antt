@@ -23,7 +23,7 @@ use Rattle.search_rows.proofs.Looked.{looked-in}
 use Rattle.search.specs.Search.{Problem, OrRefused, KnownRow, Result, done, found, find, isKnown, gOf, traced, arrived, run, begin}
 use Rattle.search.specs.Plan.{planOf, distanceBits, atEnd, popsFor}
 use Rattle.search.proofs.Ending.{result-is}
-use Rattle.search.proofs.NeighborSteps.{cell-raw}
+use Rattle.cell.proofs.Laws.{cell-raw}
 use Rattle.search.specs.declared.SearchAnswer.the-variants as answer
 use Rattle.expansion.specs.declared.Plan.{Plan}
 use Rattle.expansion.specs.declared.Sizes.{Sizes}

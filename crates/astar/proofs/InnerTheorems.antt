@@ -8,7 +8,8 @@ use Rattle.words.specs.Word.{Bytes}
 use Rattle.cell.specs.Cell.{distanceCells}
 use Rattle.cell.specs.Terms.{Words}
 use Rattle.table.specs.Records.{Row, rowsOf, flagWidth}
-use Rattle.search.specs.Plan.{distanceBits, cellOf}
+use Rattle.search.specs.Plan.{distanceBits}
+use Rattle.refusal.specs.Refusals.{cellOf}
 use Rattle.search.specs.Search.{begin}
 use Rattle.search_rows.specs.Inner.Rows.{Rows}
 use Rattle.expansion.proofs.Simulates.{Simulates}

@@ -27,7 +27,8 @@ use Rattle.route.specs.Route.{verdictOf, claim}
 use Rattle.route.specs.Accepted.{Demand3}
 use Rattle.route.proofs.DemandLaws.{accepted-is-right}
 use Rattle.search.specs.Search.{Result, found, none-found}
-use Rattle.search.specs.Plan.{cellOf, searchOf, endpoints}
+use Rattle.search.specs.Plan.{searchOf, endpoints}
+use Rattle.refusal.specs.Refusals.{cellOf}
 use Rattle.known.specs.Workspace.{inRooms}
 use Rattle.search.proofs.Accepted.{found-accepted}
 use Rattle.search.proofs.Words.{found-words}

@@ -13,7 +13,7 @@ use borrow.Author.Tests.{le-leb, lt-leb, lt-ltb, le-ltb, ltb-true}
 use Rattle.refusal.specs.declared.Cell.{Cell}
 use Rattle.refusal.specs.declared.Room.the-variants as room
 use Rattle.refusal.specs.declared.Refusal.the-variants.{NoRoom, BadWorkspace}
-use Rattle.refusal.specs.Refusals.{rawOf}
+use Rattle.refusal.specs.Refusals.{rawOf, cellOf}
 use Rattle.words.specs.Word.{Bytes}
 use Rattle.cell.specs.Cell.{sameCell}
 use Rattle.general.specs.Changed.{changed}
@@ -24,8 +24,7 @@ use Rattle.cell_list.proofs.Laws.{cells-within, none-laid-from, laid-from-front
 use Rattle.known.specs.Inner.Known.{cellIn}
 use Rattle.known.proofs.Laws.{cell-words}
 use Rattle.search.specs.Search.{found, find, beforeOf, traced}
-use Rattle.search.specs.Plan.{cellOf}
-use Rattle.search.proofs.NeighborSteps.{cell-raw}
+use Rattle.cell.proofs.Laws.{cell-raw}
 use Rattle.search.specs.declared.SearchAnswer.the-variants as answer
 use Rattle.search_rows.specs.Inner.Rows.{beforeIn, rowIn, rowsIn, Rows}
 use Rattle.search_rows.proofs.RowsLaws.{find-row}

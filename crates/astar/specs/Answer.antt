@@ -10,7 +10,7 @@ use Rattle.refusal.specs.declared.Refusal.the-variants.{NoRoom}
 use Rattle.general.specs.Changed.{Changed, changed}
 use Rattle.cell_list.specs.Listing.{roomIn, cellsLaid}
 use Rattle.search.specs.Search.{Result, found, none-found}
-use Rattle.search.specs.Plan.{cellOf}
+use Rattle.refusal.specs.Refusals.{cellOf}
 use Rattle.search.specs.declared.SearchAnswer.{SearchAnswer}
 use Rattle.search.specs.declared.SearchAnswer.the-variants as answer
 

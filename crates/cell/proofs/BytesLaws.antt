@@ -1,7 +1,7 @@
 -- What follows from the definitions of a cell's bytes: a cell and its 16 bytes make each other again, alone and within a longer list, cells are ordered as their bytes
 -- are, and a list of cells has them at every sixteenth byte.
 use mathlib.Core.Bool.{Bool, cond, true, false}
-use mathlib.Core.List.{List, [], _∷_, _++_, append-assoc, append-nil}
+use mathlib.Core.List.{List, [], _∷_, _++_, reverse, append-assoc, append-nil}
 use mathlib.Core.Path.{_≡_, refl, sym, ap, ap₂, _∙_, subst}
 use Prim.Native.Nat.{ℕ, zero, suc, _+_, _*_, _/_, _^_, _≤_, _<_}
 use native.Mathlib.Nat.{mul-comm}
@@ -71,12 +71,13 @@ unfolding cellAt
 cell-words l p b = record { high-word = word-lt big 8 l p b; low-word = word-lt big 8 l (p + 8) b }
 
 -- read after write
-pub bytes-read-back : (c : Cell) → Words c → fromBytesOf (cellBytes c) ≡ Is c
-bytes-read-back c w =
+cell-read-back : (c : Cell) → Words c → cellAt (cellBytes c) 0 ≡ c
+cell-read-back c w =
     let zeros : List ℕ = replicate 16 0 in
-    sixteen-bytes (cellBytes c) (length-cellBytes c)
-    ∙ ap (λ (l : List ℕ). Is (cellAt l 0)) (sym (cell-stored-whole zeros c refl))
-    ∙ ap Is (cell-stored zeros 0 c (omega arith) w)
+    ap (λ (l : List ℕ). cellAt l 0) (sym (cell-stored-whole zeros c refl)) ∙ cell-stored zeros 0 c (omega arith) w
+
+pub bytes-read-back : (c : Cell) → Words c → fromBytesOf (cellBytes c) ≡ Is c
+bytes-read-back c w = sixteen-bytes (cellBytes c) (length-cellBytes c) ∙ ap Is (cell-read-back c w)
 
 -- the bytes of the cell at p are those that stand there
 pub cell-bytes-part : (l : List ℕ) (p : ℕ) → p + 16 ≤ length l → Bytes l → cellBytes (cellAt l p) ≡ take 16 (drop p l)
@@ -120,6 +121,14 @@ words-ordered (a ∷ l) (b ∷ m) e f g =
 raw-word : (l : List ℕ) → length l ≡ 16 → rawOf (cellAt l 0) ≡ word big 16 l 0
 unfolding rawOf cellAt
 raw-word l e = omega (arith, word-split-big 8 8 l 0 (omega arith))
+
+-- a cell's number is that of its bytes
+pub raw-bytes : (c : Cell) → Words c → number (reverse (cellBytes c)) ≡ rawOf c
+unfolding word ordered
+raw-bytes c w =
+    let l = cellBytes c in
+    let size = length-cellBytes c in
+    sym (ap rawOf (sym (cell-read-back c w)) ∙ raw-word l size ∙ ap (λ (m : List ℕ). number (reverse m)) (take-all 16 l (omega arith)))
 
 -- cells are ordered as their bytes are
 pub order-bytes : (l m : List ℕ) → length l ≡ 16 → length m ≡ 16 → Bytes l → Bytes m → lessCell (cellAt l 0) (cellAt m 0) ≡ bytesLess l m

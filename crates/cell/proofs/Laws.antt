@@ -7,6 +7,7 @@ use mathlib.Core.List.{List·Memᴰ, Memᴰ·cast, Memᴰ·map, Memᴰ·of-map}
 use Prim.Native.Nat.{ℕ, _+_, _*_, _/_, _%_, _^_, _<_}
 use native.Mathlib.Nat.{div-add-mod'}
 use native.Mathlib.Omega.{arith}
+use lib.Arith.{digits-div, digits-mod}
 use lib.Dec.{eqb}
 use borrow.Author.Tests.{eqb-true, eqb-false, ne-eqb, ltb-true, ltb-false, lt-ltb, eq-eqb}
 use mir.Syntax.{w32}
@@ -17,7 +18,7 @@ use Rattle.refusal.specs.declared.Cell.{Cell}
 use Rattle.refusal.specs.declared.Refusal.{Refusal}
 use Rattle.refusal.specs.declared.Refusal.the-variants.{NoChildren, CoordOverflow}
 use Rattle.refusal.specs.declared.Outcome.the-variants as outcome
-use Rattle.refusal.specs.Refusals.{rawOf}
+use Rattle.refusal.specs.Refusals.{rawOf, cellOf}
 use Rattle.lattice.specs.declared.Parity.{Parity}
 use Rattle.lattice.specs.declared.ParityAnswer.{ParityAnswer}
 use Rattle.lattice.specs.declared.ParityAnswer.the-variants as parity
@@ -188,7 +189,12 @@ near-back c n w e room m =
 pub neighborhood : (c n : Cell) → Words c → Words n → isPlain c ≡ true → isPlain n ≡ true → hasNeighborRoom (coordOf c) ≡ true → hasNeighborRoom (coordOf n) ≡ true → List·Memᴰ n (nearCells c) ↔ List·Memᴰ c (nearCells n)
 neighborhood c n wc wn pc pn rc rn = (near-back c n wc pc rc, near-back n c wn pn rn)
 
--- ---- the order
+-- ---- the number and the order
+
+-- a cell is the cell of its number
+pub cell-raw : (c : Cell) → Words c → cellOf (rawOf c) ≡ c
+unfolding rawOf
+cell-raw c w = λ i. record { high = digits-div (c .high) (w .low-word) i; low = digits-mod (c .high) (w .low-word) i }
 
 -- cells with the same 128 bits are the same cell
 pub same-cell : (a b : Cell) → Words a → Words b → sameCell a b ≡ true → a ≡ b

@@ -20,7 +20,7 @@ use Rattle.search_rows.specs.Inner.Rows.{rowsIn}
 use Rattle.search_rows.proofs.RowsLaws.{find-row}
 use Rattle.search.specs.Search.{Problem, State, done, stopped, find, isKnown, relaxAll, around, arrived, entered}
 use Rattle.search.specs.Plan.{planOf, nearBy}
-use Rattle.search.proofs.NeighborSteps.{cell-raw}
+use Rattle.cell.proofs.Laws.{cell-raw}
 use Rattle.expansion.specs.declared.Plan.{Plan}
 use Rattle.expansion.specs.declared.Sizes.{Sizes}
 use Rattle.expansion.specs.declared.Step.{Step}

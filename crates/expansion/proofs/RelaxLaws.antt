@@ -18,7 +18,7 @@ use Rattle.route.specs.Route.{costBetween, isShut}
 use Rattle.known.specs.Inner.Known.{cellIn}
 use Rattle.search.specs.Search.{Problem, KnownRow, State, Flow, going, stopped, find, isClosed, gOf, plus, less, push, lower, tried, relax}
 use Rattle.search.specs.Plan.{planOf, distanceBits}
-use Rattle.search.proofs.NeighborSteps.{cell-raw}
+use Rattle.cell.proofs.Laws.{cell-raw}
 use Rattle.search_rows.specs.Inner.Rows.{rowIn, rowsIn}
 use Rattle.search_rows.proofs.RowsLaws.{length-rows}
 use Rattle.expansion.specs.declared.Plan.{Plan}

@@ -9,3 +9,4 @@ pub mod LayerAnswers
 pub mod Points
 pub mod Terms
 pub mod Version
+pub mod Labels

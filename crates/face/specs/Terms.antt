@@ -1,4 +1,4 @@
--- What theorems say of the calls that C makes: a distance that is correctly rounded, what refusal 7 tells, and the fields of a cell. Definitions only.
+-- What theorems say of the calls that C makes: a distance that is correctly rounded, what refusal 7 tells, the fields of a cell, and a label without a mistake. Definitions only.
 use mathlib.Core.List.{List}
 use mathlib.Core.Path.{_≡_}
 use Prim.Native.Nat.{ℕ, _+_}
@@ -11,6 +11,7 @@ use Rattle.cell.specs.Cell.{coordOf}
 use Rattle.cell.specs.Bytes.{cellAt, cellWidth}
 use Rattle.face.specs.declared.SearchTold.{SearchTold}
 use Rattle.face.specs.declared.FieldsTold.{FieldsTold}
+use Rattle.face.specs.declared.PlaceTold.{PlaceTold}
 use Rattle.face.specs.Told.{answered}
 
 -- the number that bits stand for is the distance of two places, correctly rounded
@@ -32,3 +33,7 @@ pub record LimitTold (limit : ℕ) (t : SearchTold) : Type 0 where
 abbrev pub fieldsGiven : ℕ → ℕ → Coord → ℕ → ℕ → FieldsTold
 fieldsGiven frame resolution c exponent flags =
     record { refusal = answered; frame = frame; resolution = resolution; exponent = exponent; flags = flags; reserved = 0; x = c .x; y = c .y; z = c .z }
+
+-- what C is told where a label has no mistake
+abbrev pub noMistake : PlaceTold
+noMistake = record { refusal = answered; place = 0 }

@@ -44,7 +44,7 @@ telling n room c = record { number = n; room = room; x = c .x; y = c .y; z = c .
 abbrev pub answered : RefusalTold
 answered = telling 0 0 noCoord
 
--- number, room and coordinates of its row. 7, 8 and 12 carry more than these fields hold: the calls that give them have structs of their own, filled from the same row
+-- number, room and coordinates of its row. 7, 8, 12 and 30 to 35 carry more than these fields hold: the calls that give them have structs of their own, filled from the same row
 abbrev pub toldOf : Refusal → RefusalTold
 toldOf r = telling (rowOf r .number) (rowOf r .room) (rowOf r .coord)
 

@@ -7,7 +7,7 @@ major = 0
 
 -- more calls, or others
 abbrev pub minor : ℕ
-minor = 2
+minor = 3
 
 -- no other calls and structs
 abbrev pub patch : ℕ

@@ -96,6 +96,13 @@ pub struct LoadTold {
     pub values: u64,
 }
 
+// The place of the first character of a label that is wrong.
+#[repr(C)]
+pub struct PlaceTold {
+    pub refusal: RefusalTold,
+    pub place: u64,
+}
+
 // The bytes that a file takes.
 #[repr(C)]
 pub struct LengthTold {

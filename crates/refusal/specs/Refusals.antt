@@ -1,6 +1,6 @@
--- The table "Refusal numbers" of the scope document: each refusal's number and all that it carries, in the table's order. What C is told of a refusal and what the report prints of it are
--- made of its row and of nothing else. Definitions only.
-use Prim.Native.Nat.{ℕ, _+_, _*_, _^_}
+-- The table "Refusal numbers" of the scope document, and the refusals that requests add to it: each refusal's number and all that it carries, in the order of the numbers. What C is told
+-- of a refusal and what the report prints of it are made of its row and of nothing else. Definitions only.
+use Prim.Native.Nat.{ℕ, _+_, _*_, _/_, _%_, _^_}
 use lib.IntN.{pos}
 use Rattle.refusal.specs.declared.Coord.{Coord}
 use Rattle.refusal.specs.declared.Cell.{Cell}
@@ -9,12 +9,19 @@ use Rattle.refusal.specs.declared.Spent.{Spent}
 use Rattle.refusal.specs.declared.RefusalRow.{RefusalRow}
 use Rattle.refusal.specs.declared.Room.{Room}
 use Rattle.refusal.specs.declared.Room.the-variants.{Known, Waiting, Output, Layer}
+use Rattle.refusal.specs.declared.LabelFault.{LabelFault}
+use Rattle.refusal.specs.declared.LabelFault.the-variants.{Prefix, MixedCase, Character, Length, Checksum, Padding}
+use Rattle.refusal.specs.declared.Mistyped.{Mistyped}
 use Rattle.refusal.specs.declared.Refusal.{Refusal}
-use Rattle.refusal.specs.declared.Refusal.the-variants.{InvalidParity, NoParent, NoChildren, OutOfRange, NoValues, HasNan, SearchLimitExceeded, NoPathFound, CoordOverflow, NoRoom, BadWorkspace, BadFile, BadList, BadLayer, BadRule}
+use Rattle.refusal.specs.declared.Refusal.the-variants.{InvalidParity, NoParent, NoChildren, OutOfRange, NoValues, HasNan, SearchLimitExceeded, NoPathFound, CoordOverflow, NoRoom, BadWorkspace, BadFile, BadList, BadLayer, BadRule, BadLabel}
 
 -- a cell's 128 bits as one number
 unfoldable pub rawOf : Cell → ℕ
 rawOf c = c .high * 2 ^ 64 + c .low
+
+-- the cell of a raw number of 128 bits
+abbrev pub cellOf : ℕ → Cell
+cellOf n = record { high = n / 2 ^ 64; low = n % 2 ^ 64 }
 
 -- ---- what a refusal carries; where it does not carry such a thing, zeros stand for it
 
@@ -41,6 +48,15 @@ roomOf Waiting = 2
 roomOf Output = 3
 roomOf Layer = 4
 
+-- the refusals of a label: "30 for the prefix, 31 mixed case, 32 character, 33 length, 34 checksum, 35 non-zero padding"
+abbrev pub faultOf : LabelFault → ℕ
+faultOf Prefix = 30
+faultOf MixedCase = 31
+faultOf Character = 32
+faultOf Length = 33
+faultOf Checksum = 34
+faultOf Padding = 35
+
 -- ---- the table
 
 -- a row of the table: the number, and all that the refusal carries
@@ -51,7 +67,7 @@ carrying number coord spent ends room place = record { number = number; coord = 
 abbrev pub carryingNothing : ℕ → RefusalRow
 carryingNothing number = carrying number noCoord noneSpent noEnds 0 0
 
--- each refusal's row, in the table's order
+-- each refusal's row, in the order of the numbers
 abbrev pub rowOf : Refusal → RefusalRow
 rowOf (InvalidParity coord) = carrying 1 coord noneSpent noEnds 0 0
 rowOf NoParent = carryingNothing 2
@@ -68,11 +84,12 @@ rowOf (BadFile place) = carrying 12 noCoord noneSpent noEnds 0 place
 rowOf BadList = carryingNothing 13
 rowOf BadLayer = carryingNothing 14
 rowOf BadRule = carryingNothing 15
+rowOf (BadLabel m) = carrying (faultOf (m .fault)) noCoord noneSpent noEnds 0 (m .place)
 
 -- its number in the table
 abbrev pub numberOf : Refusal → ℕ
 numberOf r = rowOf r .number
 
--- the byte place of refusal 12; the others have none
+-- the byte place of refusal 12 and the place of 30 to 35; the others have none
 abbrev pub placeOf : Refusal → ℕ
 placeOf r = rowOf r .place

@@ -1,6 +1,7 @@
-// What a call answers when it has no answer: the fifteen refusals of the scope document, with what each carries.
+// What a call answers when it has no answer: the refusals of the scope document and of the requests, with what each carries.
 ghost use mathlib.Core.Path.{_≡_};
-ghost use Rattle.refusal.specs.Refusals.{carrying, carryingNothing, rowOf, numberOf, roomOf};
+ghost use Rattle.refusal.specs.declared.Refusal.the-variants.{BadLabel};
+ghost use Rattle.refusal.specs.Refusals.{carrying, carryingNothing, rowOf, numberOf, roomOf, faultOf};
 
 // A place of the lattice. It is a lattice point where its coordinates are all even or all odd.
 pub struct Coord {
@@ -37,6 +38,26 @@ pub enum Room {
     Layer,
 }
 
+// What is wrong with a label.
+pub enum LabelFault {
+    // It does not begin as a label does.
+    Prefix,
+    // Some letters are upper case and some are lower case.
+    MixedCase,
+    // A character that stands for no value.
+    Character,
+    Length,
+    Checksum,
+    // The two bits behind the cell's are not zero.
+    Padding,
+}
+
+// A label that is none: what is wrong with it, and where.
+pub struct Mistyped {
+    pub fault: LabelFault,
+    pub place: u64,
+}
+
 pub enum Refusal {
     // The coordinates are neither all even nor all odd.
     InvalidParity(Coord),
@@ -59,6 +80,7 @@ pub enum Refusal {
     BadList,
     BadLayer,
     BadRule,
+    BadLabel(Mistyped),
 }
 
 // What a call that hands its answer over beside it says: it is there, or it is refused.
@@ -102,6 +124,19 @@ fn room_number(r: Room) -> u32
     }
 }
 
+fn fault_number(fault: LabelFault) -> u32
+    ensures { λ n. ⌜ n ≡ faultOf fault ⌝ }
+{
+    match fault {
+        LabelFault::Prefix => 30,
+        LabelFault::MixedCase => 31,
+        LabelFault::Character => 32,
+        LabelFault::Length => 33,
+        LabelFault::Checksum => 34,
+        LabelFault::Padding => 35,
+    }
+}
+
 const CARRYING_NOTHING: RefusalRow = RefusalRow {
     number: 0,
     coord: NO_COORD,
@@ -110,6 +145,17 @@ const CARRYING_NOTHING: RefusalRow = RefusalRow {
     room: 0,
     place: 0,
 };
+
+fn mistyped_row(m: Mistyped) -> RefusalRow
+    ensures { λ t. ⌜ t ≡ rowOf (BadLabel m) ⌝ }
+{
+    let fault = m.fault;
+    RefusalRow {
+        number: fault_number(fault),
+        place: m.place,
+        ..CARRYING_NOTHING
+    }
+}
 
 pub fn row_of(r: Refusal) -> RefusalRow
     ensures { λ t. ⌜ t ≡ rowOf r ⌝ }
@@ -180,6 +226,7 @@ pub fn row_of(r: Refusal) -> RefusalRow
             number: 15,
             ..CARRYING_NOTHING
         },
+        Refusal::BadLabel(mistyped) => mistyped_row(mistyped),
     }
 }
 

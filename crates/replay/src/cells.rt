@@ -1,6 +1,7 @@
 // The Rust oracle's answers on points and cells, replayed: each record is a call of the C face by itself, with its arguments and what the oracle said to them.
 // vectors/src/main.rs has the format of a record and the numbers of the calls.
 ghost use Prim.Native.Nat.{_+_, _≤_, _<_};
+use crate::labels;
 use crate::recorded;
 use crate::recorded::Record;
 use face::RefusalTold;
@@ -247,6 +248,8 @@ pub fn agrees(record: &Record) -> bool {
         19 => cells_agree(record, call, 8),
         20 => cells_agree(record, call, 1),
         21 => cells_agree(record, call, 1),
+        25 => labels::written_agrees(record),
+        26 => labels::read_agrees(record),
         _ => cell_call(record, call),
     }
 }

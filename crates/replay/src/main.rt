@@ -5,6 +5,7 @@ use libc::STDOUT_FILENO;
 
 mod cells;
 mod each;
+mod labels;
 mod layers;
 mod lent;
 mod paths;

@@ -8,7 +8,7 @@ use native.Mathlib.Omega.{arith}
 use lib.Dec.{eqb}
 use borrow.Author.Tests.{eqb-true}
 use Rattle.refusal.specs.declared.Cell.{Cell}
-use Rattle.refusal.specs.Refusals.{rawOf}
+use Rattle.refusal.specs.Refusals.{rawOf, cellOf}
 use Rattle.lattice.specs.declared.ParityAnswer.{ParityAnswer}
 use Rattle.lattice.specs.declared.ParityAnswer.the-variants as parity
 use Rattle.lattice.specs.Lattice.{parityOf}
@@ -17,7 +17,7 @@ use Rattle.cell.specs.Terms.{Words}
 use Rattle.table.specs.Records.{Row}
 use Rattle.route.specs.Route.{judgeCells}
 use Rattle.search.specs.Search.{Problem, found, Flow, going, done, begin, run}
-use Rattle.search.specs.Plan.{cellOf, planOf, atEnd, popsFor, searchOf, endpoints}
+use Rattle.search.specs.Plan.{planOf, atEnd, popsFor, searchOf, endpoints}
 use Rattle.known.specs.Workspace.{inRooms}
 use Rattle.search.proofs.Split.{foundBetween}
 use Rattle.general.proofs.Tests.{whether}

@@ -10,20 +10,21 @@ use native.Mathlib.Omega.{arith}
 use lib.Dec.{ltb, eqb, lit<}
 use borrow.Author.Tests.{le-ltb, eqb-true, eqb-false}
 use Rattle.refusal.specs.declared.Cell.{Cell}
-use Rattle.refusal.specs.Refusals.{rawOf}
+use Rattle.refusal.specs.Refusals.{rawOf, cellOf}
 use Rattle.general.specs.Each.{Each}
 use Rattle.general.proofs.Lists.{at-member}
 use Rattle.cell.proofs.Bits.{less-digits, same-low, same-high}
 use Rattle.cell.specs.Terms.{Words}
 use Rattle.table.specs.Records as layer
 use Rattle.search.specs.Search.{Problem, OrRefused, is, refused, KnownRow, Entry, State, Flow, going, find, row, put, close, gOf, plus, waitingKey, pushed, relaxAll, arrived, popped, next, step, run, begin}
-use Rattle.search.specs.Plan.{cellOf, planOf, endpoints}
+use Rattle.search.specs.Plan.{planOf, endpoints}
 use Rattle.known.specs.Workspace.{inRooms}
 use Rattle.search.specs.Reached.{closing}
 use Rattle.general.proofs.Tests.{on-test}
 use Rattle.search.proofs.WaitingLaws.{each-insert, each-follows}
 use Rattle.search.proofs.Invariants.{Holding, holding-follows, Lowered, HasRoom, relaxAll-keeps, popped-keeps, run-keeps}
-use Rattle.search.proofs.NeighborSteps.{cell-raw, near-beside}
+use Rattle.cell.proofs.Laws.{cell-raw}
+use Rattle.search.proofs.NeighborSteps.{near-beside}
 use Rattle.search.specs.Terms.{Beside}
 use Rattle.search.specs.Costs.{Cost, firstOut, CostRow, CostEntry, CostState}
 use Rattle.search.proofs.Costs.{cost-small, plus-cost, cost-order, cost-equal, step-cost, ahead-cost}

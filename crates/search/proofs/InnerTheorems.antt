@@ -7,7 +7,8 @@ use Rattle.general.specs.Each.{Each}
 use Rattle.refusal.specs.declared.Cell.{Cell}
 use Rattle.cell.specs.Terms.{Words}
 use Rattle.table.specs.Records.{Row}
-use Rattle.search.specs.Plan.{cellOf, searchOf, endpoints}
+use Rattle.search.specs.Plan.{searchOf, endpoints}
+use Rattle.refusal.specs.Refusals.{cellOf}
 use Rattle.known.specs.Workspace.{inRooms}
 use Rattle.search.specs.Search.{found}
 use Rattle.search.proofs as laws

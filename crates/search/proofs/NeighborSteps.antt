@@ -4,9 +4,8 @@ use mathlib.Core.Bool.{Bool, true, false}
 use mathlib.Core.List.{List, [], _∷_, map, List·Memᴰ, List·Memᴰ·head, List·Memᴰ·tail, Memᴰ·cast, Memᴰ·of-map}
 use Prim.Native.Nat.{ℕ, _<_}
 use native.Mathlib.Omega.{arith}
-use lib.Arith.{digits-div, digits-mod}
 use Rattle.refusal.specs.declared.Cell.{Cell}
-use Rattle.refusal.specs.Refusals.{rawOf}
+use Rattle.refusal.specs.Refusals.{rawOf, cellOf}
 use Rattle.lattice.specs.declared.ParityAnswer.{ParityAnswer}
 use Rattle.lattice.specs.declared.ParityAnswer.the-variants as parity
 use Rattle.lattice.specs.Lattice.{isLatticePoint, parityOf, neighborPlaces, hasNeighborRoom}
@@ -15,16 +14,11 @@ use Rattle.general.specs.Each.{Each}
 use Rattle.cell.specs.Cell.{frameOf, resolutionOf, coordOf, plainAt, nearCells, neighborsOf}
 use Rattle.cell.proofs.Split.{neighborsIn, neighborsBy}
 use Rattle.cell.specs.Terms.{Words}
-use Rattle.cell.proofs.Laws.{fields-packed, plain-is-plain}
+use Rattle.cell.proofs.Laws.{fields-packed, plain-is-plain, cell-raw}
 use Rattle.route.specs.Accepted.{Step}
 use Rattle.search.specs.Search.{is}
-use Rattle.search.specs.Plan.{cellOf, nearBy}
+use Rattle.search.specs.Plan.{nearBy}
 use Rattle.search.specs.Terms.{Beside}
-
--- a cell is the cell of its number
-pub cell-raw : (c : Cell) → Words c → cellOf (rawOf c) ≡ c
-unfolding rawOf
-cell-raw c w = λ i. record { high = digits-div (c .high) (w .low-word) i; low = digits-mod (c .high) (w .low-word) i }
 
 near-step : (c : Cell) → isLatticePoint (coordOf c) ≡ true → hasNeighborRoom (coordOf c) ≡ true → (k : Cell) → List·Memᴰ k (nearCells c) → Words k × Step c k
 unfolding nearCells

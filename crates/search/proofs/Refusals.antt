@@ -20,7 +20,8 @@ use Rattle.cell.specs.Cell.{coordOf, neighborsOf}
 use Rattle.cell.proofs.Split.{neighborsIn, neighborsBy}
 use Rattle.table.specs.Records.{Row}
 use Rattle.search.specs.Search.{Problem, refused}
-use Rattle.search.specs.Plan.{cellOf, nearBy, distanceBits, planOf, endpoints}
+use Rattle.search.specs.Plan.{nearBy, distanceBits, planOf, endpoints}
+use Rattle.refusal.specs.Refusals.{cellOf}
 use Rattle.known.specs.Workspace.{inRooms}
 use Rattle.general.proofs.Tests.{whether}
 use Rattle.search.proofs.Shortages.{Other, OtherRefusals}

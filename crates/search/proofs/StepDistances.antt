@@ -11,7 +11,8 @@ use Rattle.table.specs.Records as layer
 use Rattle.route.specs.Route.{costBetween}
 use Rattle.route.proofs.AcceptedLaws.{cost-is-distance}
 use Rattle.search.specs.Search.{Problem, is}
-use Rattle.search.specs.Plan.{cellOf, planOf, endpoints}
+use Rattle.search.specs.Plan.{planOf, endpoints}
+use Rattle.refusal.specs.Refusals.{cellOf}
 use Rattle.known.specs.Workspace.{inRooms}
 use Rattle.search.specs.Terms.{Beside}
 use Rattle.search.proofs.NeighborSteps.{near-beside}

@@ -6,7 +6,7 @@ use mathlib.Core.Logic.{_↔_}
 use Prim.Native.Nat.{ℕ, _≤_, _<_}
 use lib.Dec.{ltb, eqb}
 use lib.Ieee.{Float, binary64, toBits}
-use Rattle.refusal.specs.Refusals.{rawOf}
+use Rattle.refusal.specs.Refusals.{rawOf, cellOf}
 use Rattle.refusal.specs.declared.Cell.{Cell}
 use Rattle.refusal.specs.declared.Refusal.the-variants.{NoRoom, SearchLimitExceeded}
 use Rattle.refusal.specs.declared.Room.{Room}
@@ -20,7 +20,7 @@ use Rattle.table.specs.Records as layer
 use Rattle.route.specs.Route.{judgeCells}
 use Rattle.search.specs.Costs.{Cost, equal, CostState, firstOut}
 use Rattle.search.specs.Reached.{OneMore, FirstMore}
-use Rattle.search.specs.Plan.{planOf, searchOf, endpoints, cellOf, atEnd, popsFor}
+use Rattle.search.specs.Plan.{planOf, searchOf, endpoints, atEnd, popsFor}
 use Rattle.known.specs.Workspace.{inRooms}
 use Rattle.search.specs.Search.{found, Problem, done, run, begin, Result, Ends, none-found, less, State, going, Entry, waitingKey, is}
 use Rattle.search.specs.Terms.{Beside, Route, OneBeyond, Apart}

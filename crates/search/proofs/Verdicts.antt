@@ -9,7 +9,7 @@ use lib.Ieee.{Float, fin, binary64, add, toBits, ofBits}
 use lib.Ieee.Bits.{ofBits-toBits}
 use lib.Ieee.Fits.{add-fits}
 use Rattle.refusal.specs.declared.Cell.{Cell}
-use Rattle.refusal.specs.Refusals.{rawOf}
+use Rattle.refusal.specs.Refusals.{rawOf, cellOf}
 use Rattle.lattice.specs.Lattice.{isOdd}
 use Rattle.distance.specs.Steps.{rootThree, twoFloat}
 use Rattle.cell.specs.Cell.{xOf}
@@ -18,9 +18,9 @@ use Rattle.table.specs.Records.{Row}
 use Rattle.route.specs.Route.{costBetween, arrived, walkFrom, judgeCells}
 use Rattle.route.proofs.StepLaws.{is-step}
 use Rattle.search.specs.Search.{plus, Problem}
-use Rattle.search.specs.Plan.{cellOf, planOf, endpoints}
+use Rattle.search.specs.Plan.{planOf, endpoints}
 use Rattle.known.specs.Workspace.{inRooms}
-use Rattle.search.proofs.NeighborSteps.{cell-raw}
+use Rattle.cell.proofs.Laws.{cell-raw}
 use Rattle.search.specs.Terms.{Beside, Leads, here, onward, Route}
 
 -- ---- the bits of a sum

@@ -7,9 +7,10 @@ use Rattle.general.specs.Each.{Each}
 use Rattle.cell.specs.Terms.{Words}
 use Rattle.table.specs.Records.{Row}
 use Rattle.search.specs.Search.{Problem, found}
-use Rattle.search.specs.Plan.{cellOf, planOf, searchOf, endpoints}
+use Rattle.search.specs.Plan.{planOf, searchOf, endpoints}
+use Rattle.refusal.specs.Refusals.{cellOf}
 use Rattle.known.specs.Workspace.{inRooms}
-use Rattle.search.proofs.NeighborSteps.{cell-raw}
+use Rattle.cell.proofs.Laws.{cell-raw}
 use Rattle.search.specs.Terms.{Beside, Leads, here, onward}
 use Rattle.search.proofs.Accepted.{found-leads}
 

@@ -8,7 +8,7 @@ use Rattle.refusal.specs.declared.Cell.{Cell}
 use Rattle.refusal.specs.declared.Refusal.the-variants.{NoPathFound, BadWorkspace}
 use Rattle.refusal.specs.declared.Outcome.{Outcome}
 use Rattle.refusal.specs.declared.Outcome.the-variants as outcome
-use Rattle.refusal.specs.Refusals.{rawOf}
+use Rattle.refusal.specs.Refusals.{rawOf, cellOf}
 use Rattle.lattice.specs.Lattice.{parityOf, onParities}
 use Rattle.distance.specs.declared.DistanceAnswer.{DistanceAnswer}
 use Rattle.distance.specs.declared.DistanceAnswer.the-variants as distance
@@ -20,10 +20,6 @@ use Rattle.search.specs.Search.{OrRefused, is, refused, Problem, Result,
 use Rattle.general.specs.Refuse.{refuseIf}
 use Rattle.refusal.specs.declared.Ends.{Ends}
 use Rattle.known.specs.Workspace.{WalkRooms}
-
--- the cell of a raw number of 128 bits
-abbrev pub cellOf : ℕ → Cell
-cellOf n = record { high = n / 2 ^ 64; low = n % 2 ^ 64 }
 
 -- a cell's neighbours by their raw numbers, or the refusal
 abbrev pub nearBy : Outcome → List Cell → OrRefused (List ℕ)

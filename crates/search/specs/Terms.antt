@@ -6,13 +6,12 @@ use Prim.Native.Nat.{ℕ, _+_}
 use lib.Dec.{eqb}
 use Rattle.refusal.specs.declared.Spent.{Spent}
 use Rattle.refusal.specs.declared.Cell.{Cell}
-use Rattle.refusal.specs.Refusals.{rawOf}
+use Rattle.refusal.specs.Refusals.{rawOf, cellOf}
 use Rattle.lattice.specs.Lattice.{isLatticePoint}
 use Rattle.cell.specs.Cell.{coordOf}
 use Rattle.cell.specs.Terms.{Words}
 use Rattle.route.specs.Accepted.{Step}
 use Rattle.search.specs.Search.{Problem, plus}
-use Rattle.search.specs.Plan.{cellOf}
 
 -- what refusal 7 carries under a limit: the limit, and one expansion more
 pub record OneBeyond (limit : ℕ) (s : Spent) : Type 0 where

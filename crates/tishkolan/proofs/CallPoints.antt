@@ -1,14 +1,15 @@
--- Known points of what C is told, by computation: a distance, a search beyond its limit, a cell that is made and read, and a parent's children.
+-- Known points of what C is told, by computation: a distance, a search beyond its limit, a cell that is made and read, its label, and a parent's children.
 use mathlib.Core.Bool.{false}
-use mathlib.Core.List.{[], _∷_, flatMap}
+use mathlib.Core.List.{List, [], _∷_, _++_, flatMap}
 use mathlib.Core.Path.{refl, _≡_}
+use Prim.Native.Nat.{ℕ}
 use borrow.Fn.Kinds.{endedOf}
 use lib.IntN.{pos, negsuc}
 use lib.Ieee.{fin, binary64, ofBits, toBits}
 use lib.ListN.{replicate, take, drop}
 use contract.Lifetimes.{Lfts}
 use denote.Triple.Clauses.{AtExit}
-use Rattle.refusal.specs.Refusals.{rawOf}
+use Rattle.refusal.specs.Refusals.{rawOf, noCoord}
 use Rattle.refusal.specs.declared.Coord.{Coord}
 use Rattle.words.specs.Word.{word, number, ordered, lowDigits, bytesOf}
 use Rattle.lattice.specs.Lattice.{at, isLatticePoint, parityOf, childSteps, childPlaces, hasChildRoom, childrenOf, parentOf}
@@ -17,16 +18,21 @@ use Rattle.distance.specs.Distance.{squaredDistance, distanceOf}
 use Rattle.distance.specs.Nearest.{NearestRoot}
 use Rattle.cell.specs.Cell.{packed, newOf}
 use Rattle.cell.specs.Bytes.{cellAt, cellBytes, fromBytesOf}
+use Rattle.bech32m.specs.Text.{firstFrom}
+use Rattle.bech32m.specs.Checksum.{indexOf, valueOf, digits, numberFrom, step, sumFrom, created}
+use Rattle.bech32m.specs.Valid.{isOf}
+use Rattle.label.specs.Label.{dataOf, labelOf, unlikeFrom, mixedAt, unknownAt, bitsIn, readValues, readOf}
 use Rattle.table.specs.Records.{layer}
 use Rattle.search.specs.Plan.{searchOf}
 use Rattle.known.specs.Workspace.{inRooms}
 use Rattle.astar.specs.Call.{hasRooms, searchIn, asking, buffers}
 use Rattle.face.specs.declared.BitsTold.{BitsTold}
-use Rattle.face.specs.Told.{bitsTold, answered, ofCoord}
+use Rattle.face.specs.Told.{bitsTold, telling, answered, filled, ofCoord}
 use Rattle.face.specs.declared.SearchTold.{SearchTold}
 use Rattle.face.specs.Searches.{ofSearched}
 use Rattle.face.specs.Cells.{newTold, fieldsTold}
-use Rattle.face.specs.Terms.{fieldsGiven}
+use Rattle.face.specs.Labels.{labelTold, placeFilled, cellTold}
+use Rattle.face.specs.Terms.{fieldsGiven, noMistake}
 use Rattle.face.specs.Points.{childrenTold}
 use Rattle.tishkolan.proofs as here
 use Rattle.tishkolan.proofs.Calls.{LatticeDistance}
@@ -63,6 +69,24 @@ document-cell = refl
 pub document-cell-made : newTold 0 3 document-place 28 165 (replicate 16 0) .told ≡ answered
 unfolding newTold newOf packed parityOf isLatticePoint cellBytes bytesOf lowDigits ordered
 document-cell-made = refl
+
+-- its label, "cx3d1qqqqqq0lllll7qqqqqqs5hqrqq75s4gn", and a byte behind it
+abbrev document-label : List ℕ
+document-label = 99 ∷ 120 ∷ 51 ∷ 100 ∷ 49 ∷ 113 ∷ 113 ∷ 113 ∷ 113 ∷ 113 ∷ 113 ∷ 48 ∷ 108 ∷ 108 ∷ 108 ∷ 108 ∷ 108 ∷ 55 ∷ 113 ∷ 113 ∷ 113 ∷ 113 ∷ 113 ∷ 113 ∷ 115 ∷ 53 ∷ 104 ∷ 113 ∷ 114 ∷ 113 ∷ 113 ∷ 55 ∷ 53 ∷ 115 ∷ 52 ∷ 103 ∷ 110 ∷ 9 ∷ []
+
+pub document-label-told : labelTold (take 16 (newTold 0 3 document-place 28 165 (replicate 16 0) .out)) (replicate 38 9) ≡ filled answered document-label
+unfolding newTold newOf packed parityOf isLatticePoint cellBytes bytesOf lowDigits labelTold fromBytesOf cellAt word number ordered labelOf dataOf rawOf digits created sumFrom step
+document-label-told = refl
+
+-- the label is read, and the byte behind the cell stays
+pub document-label-read : cellTold (take 37 document-label) (replicate 17 9) ≡ placeFilled noMistake (newTold 0 3 document-place 28 165 (replicate 17 9) .out)
+unfolding newTold newOf packed parityOf isLatticePoint cellBytes bytesOf lowDigits ordered cellTold readOf unlikeFrom mixedAt unknownAt readValues bitsIn numberFrom isOf valueOf indexOf firstFrom sumFrom step
+document-label-read = refl
+
+-- with a b at place 20, which no label has
+pub document-label-mistyped : cellTold (take 20 document-label ++ 98 ∷ take 16 (drop 21 document-label)) (replicate 16 9) ≡ placeFilled (record { refusal = telling 32 0 noCoord; place = 20 }) (replicate 16 9)
+unfolding cellTold readOf unlikeFrom mixedAt unknownAt isOf valueOf indexOf firstFrom
+document-label-mistyped = refl
 
 -- the parent of (3, 3, 1) is told as (1, 1, 1), and (3, 3, 1) is the sixth place that is listed for it
 pub sixth-listed : (ofCoord (parentOf (at (pos 3) (pos 3) (pos 1))) ≡ ofCoord (coord.At (at (pos 1) (pos 1) (pos 1))))

@@ -21,6 +21,7 @@ use Rattle.face.specs.declared.Asked.the-variants.{For, Unknown}
 use Rattle.face.specs.Aggregates.{aggregationOf}
 use Rattle.tishkolan.proofs as here
 use Rattle.cell.specs.Bytes.{cellWidth}
+use Rattle.label.specs.Label.{labelWidth}
 
 -- ---- the checker
 
@@ -209,6 +210,36 @@ pub record Repacks (call : CellNew) (f : FieldsTold) : Type 0 where
   pub same-place : newPlace call ≡ at (f .x) (f .y) (f .z)
   pub same-exponent : newExponent call ≡ f .exponent
   pub same-flags : newFlags call ≡ f .flags
+
+-- ---- labels
+
+-- a call of `tishkolan_cell_to_bech32m`
+abbrev pub CellToBech32m : Type 0
+CellToBech32m = Call 2 here.labels.tishkolan_cell_to_bech32m.Kinds.ps here.labels.tishkolan_cell_to_bech32m.Kinds.r here.labels.tishkolan_cell_to_bech32m.Reads.Post
+
+-- the bytes of the cell that it is handed
+abbrev pub named : CellToBech32m → List ℕ
+named call = now (call .arguments .0)
+
+-- the label that it leaves
+abbrev pub labelLeft : CellToBech32m → List ℕ
+labelLeft call = take labelWidth (now (call .exit .1 .0))
+
+-- a call of `tishkolan_cell_from_bech32m`
+abbrev pub CellFromBech32m : Type 0
+CellFromBech32m = Call 2 here.labels.tishkolan_cell_from_bech32m.Kinds.ps here.labels.tishkolan_cell_from_bech32m.Kinds.r here.labels.tishkolan_cell_from_bech32m.Reads.Post
+
+-- the string that it is handed
+abbrev pub spelled : CellFromBech32m → List ℕ
+spelled call = now (call .arguments .0)
+
+-- the buffer that it is lent
+abbrev pub cellLent : CellFromBech32m → List ℕ
+cellLent call = now (call .arguments .1 .0)
+
+-- the bytes of the cell that it leaves
+abbrev pub cellLeft : CellFromBech32m → List ℕ
+cellLeft call = take cellWidth (now (call .exit .1 .0))
 
 -- ---- layers
 

@@ -4,6 +4,7 @@ pub mod Given
 pub mod Found
 pub mod OneAnswer
 pub mod OneAnswerCells
+pub mod OneAnswerLabels
 pub mod OneAnswerLayers
 pub mod Calls
 pub mod LayerAnswers
@@ -21,6 +22,7 @@ pub mod Limits
 pub mod Parents
 pub mod Distances
 pub mod Packing
+pub mod LabelCalls
 pub mod Filling
 pub mod Theorems
 pub mod CallPoints

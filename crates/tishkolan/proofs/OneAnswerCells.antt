@@ -5,6 +5,12 @@ use Rattle.tishkolan.proofs as here
 use Rattle.general.specs.OneAnswer.{OneAnswer, OneExit}
 use Rattle.tishkolan.proofs.OneAnswer.{same-told, same-out}
 
+pub put-cell-one : OneAnswer 1 here.cells.put_cell.Kinds.ps here.cells.put_cell.Kinds.r here.cells.put_cell.Reads.Post
+put-cell-one κs a z z′ e e′ p q = same-told p q
+
+pub put-cell-exit : OneExit 1 here.cells.put_cell.Kinds.ps here.cells.put_cell.Kinds.r here.cells.put_cell.Reads.Post
+put-cell-exit κs a z z′ last last′ p q = λ i. (at-last (a .0) (same-out p q i), a .1)
+
 pub new-one : OneAnswer 1 here.cells.tishkolan_cell_new.Kinds.ps here.cells.tishkolan_cell_new.Kinds.r here.cells.tishkolan_cell_new.Reads.Post
 new-one κs a z z′ e e′ p q = same-told p q
 

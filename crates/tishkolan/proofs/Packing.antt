@@ -45,7 +45,7 @@ pub record Made (a : CellAnswer) (t : RefusalTold) (out : List ℕ) : Type 0 whe
 front-bytes : (c : Cell) (l : List ℕ) → take 16 (cellBytes c ++ l) ≡ cellBytes c
 front-bytes c l = take-at (cellBytes c) l 16 (length-cellBytes c)
 
-made : (a : CellAnswer) (t : RefusalTold) (l out : List ℕ) → filled t out ≡ fillCell l a → t .number ≡ 0 → Made a t out
+pub made : (a : CellAnswer) (t : RefusalTold) (l out : List ℕ) → filled t out ≡ fillCell l a → t .number ≡ 0 → Made a t out
 made (Refused r) t l out p nought = absurd (refused-number r (sym (ap (λ (z : Filled ℕ). z .told .number) p) ∙ nought))
 made (Is c) t l out p nought =
     record {
@@ -90,7 +90,7 @@ told-of l f p nought = by-cell (fromBytesOf l) refl p
     by-cell (Refused r) e q = absurd (refused-number r (sym (ap (λ (z : FieldsTold). z .refusal .number) q) ∙ nought))
     by-cell (Is c) e q = (c, e, q)
 
-filled-front : (t : RefusalTold) (l out : List ℕ) (c : Cell) → filled t out ≡ fillCell l (Is c) → 16 ≤ length l → (t ≡ answered) × (take 16 out ≡ cellBytes c)
+pub filled-front : (t : RefusalTold) (l out : List ℕ) (c : Cell) → filled t out ≡ fillCell l (Is c) → 16 ≤ length l → (t ≡ answered) × (take 16 out ≡ cellBytes c)
 filled-front t l out c p room =
     let roomy : leb (length (cellBytes c)) (length l) ≡ true = le-leb (length (cellBytes c)) (length l) (omega (arith, length-cellBytes c)) in
     let whole : filled t out ≡ filled answered (fronted (cellBytes c) l) = p ∙ ap (λ (b : Bool). cond b (filled answered (fronted (cellBytes c) l)) (filled (toldOf (NoRoom Output)) l)) roomy in

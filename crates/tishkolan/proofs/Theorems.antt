@@ -1,9 +1,9 @@
 -- What is shown of the calls that C makes, beside their contracts: the theorems that docs/PROMISES.md names, over the calls of Calls.antt and in words of specs/. The law behind each is
 -- the one that its proof names.
 use mathlib.Core.Path.{_≡_}
-use mathlib.Core.Logic.{_↔_}
+use mathlib.Core.Logic.{_↔_, _⊎_}
 use mathlib.Core.Bool.{true}
-use mathlib.Core.List.{List}
+use mathlib.Core.List.{List, map}
 use Prim.Native.Nat.{ℕ, _+_, _*_, _%_, _≤_, _<_}
 use denote.Ref.{now}
 use lib.ListN.{length, take, drop}
@@ -12,14 +12,15 @@ use Rattle.words.specs.Word.{Bytes}
 use Rattle.lattice.specs.Lattice.{at, isLatticePoint}
 use Rattle.cell.specs.declared.CellAnswer.the-variants as cell
 use Rattle.cell.specs.Bytes.{fromBytesOf, cellWidth}
+use Rattle.label.specs.Terms.{uppered, IsLabel}
 use Rattle.table.specs.Records.{Layer, nothing, held, heldOf, rowsOf, isSound, flagWidth, valueWidth}
 use Rattle.route.specs.Accepted.{Demand3}
 use Rattle.history.specs.History.{flagLayer, valueLayer, Step, AllOfBytes, IsLayer, lastLeft}
 use Rattle.face.specs.Told.{answered}
 use Rattle.face.specs.Points.{triple}
 use Rattle.face.specs.LayerAnswers.{tellingCount, heldTold, LayerCase, setTold, removeTold}
-use Rattle.face.specs.Terms.{Nearest, CellsNearest, LimitTold, fieldsGiven}
-use Rattle.tishkolan.proofs.Calls.{RouteVerdict, judged, judgedIn, judgedUnder, RouteChoice, sent, homing, chosenIn, chosenUnder, ClaimBytes, AcceptedRoute, Astar, searchedIn, searchedUnder, returned, AstarWithLimit, limitedIn, limitedUnder, limitGiven, limitedReturned, LatticeDistance, firstPlace, secondPlace, CellDistance, firstCell, secondCell, LatticeParent, childPlace, LatticeChildren, parentPlace, childrenLeft, CellNew, newFrame, newResolution, newPlace, newExponent, newFlags, newLent, newLeft, CellFields, fieldsBytes, Typed, Repacks, FlagsSet, FlagsGet, FlagsRemove, ValuesSet, ValuesGet, ValuesRemove, Handed, Calls}
+use Rattle.face.specs.Terms.{Nearest, CellsNearest, LimitTold, fieldsGiven, noMistake}
+use Rattle.tishkolan.proofs.Calls.{RouteVerdict, judged, judgedIn, judgedUnder, RouteChoice, sent, homing, chosenIn, chosenUnder, ClaimBytes, AcceptedRoute, Astar, searchedIn, searchedUnder, returned, AstarWithLimit, limitedIn, limitedUnder, limitGiven, limitedReturned, LatticeDistance, firstPlace, secondPlace, CellDistance, firstCell, secondCell, LatticeParent, childPlace, LatticeChildren, parentPlace, childrenLeft, CellNew, newFrame, newResolution, newPlace, newExponent, newFlags, newLent, newLeft, CellFields, fieldsBytes, Typed, Repacks, CellToBech32m, named, labelLeft, CellFromBech32m, spelled, cellLent, cellLeft, FlagsSet, FlagsGet, FlagsRemove, ValuesSet, ValuesGet, ValuesRemove, Handed, Calls}
 use Rattle.tishkolan.proofs as laws
 use Rattle.astar.specs.Call.{defaultLimit}
 
@@ -184,3 +185,24 @@ pub new-after-fields :
     → isLatticePoint (at (reading .told .x) (reading .told .y) (reading .told .z)) ≡ true → Repacks call (reading .told) → cellWidth ≤ length (newLent call)
     → (call .told ≡ answered) × (take cellWidth (newLeft call) ≡ fieldsBytes reading)
 new-after-fields = laws.Packing.new-after-fields
+
+-- ---- labels
+
+-- Where `tishkolan_cell_to_bech32m` tells refusal 0 of a cell, `tishkolan_cell_from_bech32m` reads the 37 characters that it left, tells no mistake, and leaves the same 16 bytes, where
+-- it has room for them.
+pub label-read-back :
+    (write : CellToBech32m) (read : CellFromBech32m) → Bytes (named write) → write .told .number ≡ 0 → spelled read ≡ labelLeft write → cellWidth ≤ length (cellLent read)
+    → (read .told ≡ noMistake) × (cellLeft read ≡ named write)
+label-read-back = laws.LabelCalls.label-read-back
+
+-- Where `tishkolan_cell_from_bech32m` tells refusal 0 of a string, the string is what `tishkolan_cell_to_bech32m` leaves of the cell that it read, or that in upper case.
+pub label-read-alone :
+    (read : CellFromBech32m) (write : CellToBech32m) → read .told .refusal .number ≡ 0 → write .told .number ≡ 0 → named write ≡ cellLeft read
+    → (spelled read ≡ labelLeft write) ⊎ (spelled read ≡ map uppered (labelLeft write))
+label-read-alone = laws.LabelCalls.label-read-alone
+
+-- Where `tishkolan_cell_from_bech32m` has room for a cell, it tells 0 or 35, which is that of the padding, exactly of the strings of 37 characters that BIP 350 calls valid, with the
+-- prefix cx3d in either case and the separator behind it.
+pub label-told-exactly :
+    (read : CellFromBech32m) → cellWidth ≤ length (cellLent read) → ((read .told .refusal .number ≡ 0) ⊎ (read .told .refusal .number ≡ 35)) ↔ IsLabel (spelled read)
+label-told-exactly = laws.LabelCalls.label-told-exactly

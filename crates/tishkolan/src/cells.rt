@@ -61,7 +61,7 @@ fn both(first: &[u8], second: &[u8]) -> PairAnswer
 }
 
 // A cell at the front of what C lends.
-fn put_cell(out: &mut [u8], a: CellAnswer) -> RefusalTold
+pub fn put_cell(out: &mut [u8], a: CellAnswer) -> RefusalTold
     ensures { λ t. ⌜ filled t (now (out .exit)) ≡ fillCell (now (out .entry)) a ⌝ }
 {
     match a {

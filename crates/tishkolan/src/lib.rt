@@ -2,6 +2,7 @@
 pub mod aggregates;
 pub mod cells;
 pub mod flags;
+pub mod labels;
 pub mod layers;
 pub mod paths;
 pub mod points;

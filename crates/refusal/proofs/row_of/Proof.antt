@@ -51,6 +51,9 @@ returns-14 c = sym (ap rowOf (c .before .before .before .enum-told9 .given .1))
 returns-15 : tie.Need-returns-15
 returns-15 c = sym (ap rowOf (c .before .before .before .enum-told10 .given .1))
 
+returns-16 : tie.Need-returns-16
+returns-16 c = c .mistyped-row .ensures ∙ sym (ap rowOf (c .before .before .r6 .given .1))
+
 pub row-of-spec : {M : Type 1} → statement M
 row-of-spec =
     tie.close
@@ -71,4 +74,6 @@ row-of-spec =
     (λ c. search needs)
     (λ c. search needs)
     (λ c. search needs)
-    returns returns-2 returns-3 returns-4 returns-5 returns-6 returns-7 returns-8 returns-9 returns-10 returns-11 returns-12 returns-13 returns-14 returns-15)
+    (λ c. search needs)
+    (λ c κs. search needs)
+    returns returns-2 returns-3 returns-4 returns-5 returns-6 returns-7 returns-8 returns-9 returns-10 returns-11 returns-12 returns-13 returns-14 returns-15 returns-16)
