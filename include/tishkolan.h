@@ -47,9 +47,9 @@ extern "C" {
 /* ---- the version of this header */
 
 #define TISHKOLAN_VERSION_MAJOR 0
-#define TISHKOLAN_VERSION_MINOR 3
+#define TISHKOLAN_VERSION_MINOR 4
 #define TISHKOLAN_VERSION_PATCH 0
-#define TISHKOLAN_VERSION "0.3.0"
+#define TISHKOLAN_VERSION "0.4.0"
 #define TISHKOLAN_VERSION_NUMBER \
     (TISHKOLAN_VERSION_MAJOR * 1000000 + TISHKOLAN_VERSION_MINOR * 1000 + TISHKOLAN_VERSION_PATCH)
 
@@ -61,7 +61,7 @@ uint32_t tishkolan_version(void);
 
 /*     if (tishkolan_version() != TISHKOLAN_VERSION_NUMBER)
  *         return 1;
- *     puts(TISHKOLAN_VERSION); // 0.3.0 */
+ *     puts(TISHKOLAN_VERSION); // 0.4.0 */
 
 /* ---- what a call says */
 
@@ -619,8 +619,10 @@ tishkolan_count_answer tishkolan_values_rollup(const uint8_t *fine, size_t fine_
  *   byte  12         4 bytes  where the value records begin: 16 + 20 f
  *   byte  16         20 f     the flag records, as in a layer
  *   byte  16 + 20 f  24 v     the value records, as in a layer; the file ends with the last
- * A file that is read may have its records in any order and a cell more than once: the later record
- * replaces the earlier. A file that is written has them ascending, each cell once. */
+ * The records of each section are strictly ascending by their cells' bytes, so no cell stands twice in
+ * one; a cell may stand in both. Older files could have their records in any order, and a cell more than
+ * once: such a file is refused. The repository's program rewrite makes of it the ascending file with the
+ * same layers, a later record of a cell in place of the earlier. */
 
 enum { TISHKOLAN_FILE_BYTES = 16 + TISHKOLAN_MOST_CELLS * (TISHKOLAN_FLAG_RECORD + TISHKOLAN_VALUE_RECORD) }; /* of the longest */
 
@@ -641,11 +643,11 @@ typedef struct {
  * are only handed back where it refuses.
  * BAD_FILE, with the place in the file: shorter than 16 bytes (place: its length); the version (0); f (2)
  * or v (4) above 1,024; bytes 6 and 7 (6); where the records begin (8, 12); a file that is too short for
- * its records (its length) or too long (where it should end). Then NO_ROOM 4, by how many cells there
- * are, however often each is named: of the flags, then of the values.
+ * its records (its length) or too long (where it should end); then records that do not ascend (where the
+ * first record begins that is not above the one before it), of the flags, then of the values. Then
+ * NO_ROOM 4, by f and v: of the flags, then of the values.
  * TAKE BOTH COUNTS BACK, or the next verdict judges a part of the new survey: see layers.
- * Time: f log f and v log v, and the zeroing of its arrays and of the rest of both tables.
- * Stack: 65,000 bytes. */
+ * Time: the records, and the zeroing of the rest of both tables. */
 tishkolan_load_answer tishkolan_survey_load(const uint8_t *file, size_t file_length,
                                             uint8_t *flags, size_t flags_length, size_t flags_count,
                                             uint8_t *values, size_t values_length, size_t values_count);
@@ -682,7 +684,15 @@ tishkolan_length_answer tishkolan_survey_write(const uint8_t *flags, size_t flag
  *     flags_count = load.flags, values_count = load.values;
  *     if (load.refusal.number != TISHKOLAN_BAD_FILE)
  *         return 1;
- *     printf("byte %u: %s\n", (unsigned)load.place, tishkolan_refusal_name(load.refusal.number)); // byte 80: the file is no survey file */
+ *     printf("byte %u: %s\n", (unsigned)load.place, tishkolan_refusal_name(load.refusal.number)); // byte 80: the file is no survey file
+ *     file[5] = 1; // the right count again,
+ *     memcpy(file + 36, file + 16, 16); // and the first flag record's cell in the second too
+ *     load = tishkolan_survey_load(
+ *         file, written.length, flags, sizeof flags, flags_count, values, sizeof values, values_count);
+ *     flags_count = load.flags, values_count = load.values;
+ *     if (load.refusal.number != TISHKOLAN_BAD_FILE)
+ *         return 1;
+ *     printf("byte %u\n", (unsigned)load.place); // byte 36 */
 
 /* ---- lists of cells, 16 bytes each, at the front of a buffer. The count is how many they are, and 0
  * where the call refuses. */

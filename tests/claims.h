@@ -1,4 +1,4 @@
-/* What the C tests share: a claim, what a call said beside its answer, patterns in buffers, cells.
+/* What the C tests share: a claim, what a call said beside its answer, patterns in buffers, cells, the order of records.
  * Every CHECK is one claim; a program prints how many hold, exit status 1 where one does not. */
 #ifndef CLAIMS_H
 #define CLAIMS_H
@@ -92,6 +92,17 @@ static inline cell at(uint8_t resolution, int32_t x, int32_t y, int32_t z)
     made.bytes[14] = resolution;
     made.bytes[15] = 7;
     return made;
+}
+
+/* ---- records, each a cell's 16 bytes and what is kept of it */
+
+/* The first of so many records that is not above the one before it by its cell's bytes; their number where there is none. */
+static inline size_t first_fall(const uint8_t *records, size_t record, size_t count)
+{
+    for (size_t row = 1; row < count; row++)
+        if (memcmp(records + (row - 1) * record, records + row * record, CELL) >= 0)
+            return row;
+    return count;
 }
 
 #endif

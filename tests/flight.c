@@ -207,6 +207,9 @@ int main(void)
         fly_on(OPEN, when, 0, 1, 2);   /* another version */
         fly_on(6, when, 0, 15, 4);     /* a wrong offset */
         fly_on(OPEN, when, 0, 5, 1);   /* one value more or less than there is */
+        fly_on(OPEN, when, 0, 16, 128); /* a first record that is above the second */
+        fly_on(6, when, 0, 16, 128);
+        fly_on(6, when, 0, 67, 2);     /* the second record's cell in the third too */
     }
     no_room_for_a_survey();
     choices();

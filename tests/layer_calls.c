@@ -342,16 +342,150 @@ static void surveys(void)
     CHECK(answered(load.refusal) && load.flags == 2 && load.values == 1);
     CHECK(same(flags, flags_again, sizeof flags) && same(values, values_again, sizeof values));
 
-    /* One byte short, one long; a later record of a cell replaces the earlier; room by distinct cells. */
+    /* One byte short, one long. */
     load = tishkolan_survey_load(file, written.length - 1, flags_again, sizeof flags_again, 2, values_again, sizeof values_again, 1);
     CHECK(refused(load.refusal, TISHKOLAN_BAD_FILE) && load.place == written.length - 1 && load.flags == 2 && load.values == 1);
     load = tishkolan_survey_load(file, written.length + 1, flags_again, sizeof flags_again, 2, values_again, sizeof values_again, 1);
     CHECK(refused(load.refusal, TISHKOLAN_BAD_FILE) && load.place == written.length);
-    memcpy(file + 16 + FLAG, file + 16, CELL);
-    load = tishkolan_survey_load(file, written.length, flags_again, FLAG, 0, values_again, VALUE, 0);
-    CHECK(answered(load.refusal) && load.flags == 1 && load.values == 1 && flag_record(flags_again, at(3, 1, 1, 1), 1));
-    load = tishkolan_survey_load(file, written.length, flags_again, FLAG - 1, 7, values_again, VALUE, 8);
+
+    /* Tables that the records just fill, and each a byte shorter. */
+    fill(flags_again, sizeof flags_again);
+    fill(values_again, sizeof values_again);
+    load = tishkolan_survey_load(file, written.length, flags_again, 2 * FLAG - 1, 7, values_again, VALUE, 8);
     CHECK(no_layer_room(load.refusal) && load.place == 0 && load.flags == 7 && load.values == 8);
+    load = tishkolan_survey_load(file, written.length, flags_again, 2 * FLAG, 7, values_again, VALUE - 1, 8);
+    CHECK(no_layer_room(load.refusal) && load.place == 0 && load.flags == 7 && load.values == 8);
+    CHECK(untouched(flags_again, sizeof flags_again) && untouched(values_again, sizeof values_again));
+    load = tishkolan_survey_load(file, written.length, flags_again, 2 * FLAG, 7, values_again, VALUE, 8);
+    CHECK(answered(load.refusal) && load.place == 0 && load.flags == 2 && load.values == 1);
+    CHECK(flag_record(flags_again, at(3, 1, 1, 1), 2) && flag_record(flags_again + FLAG, at(3, 2, 2, 2), 1) && same(values_again, values, VALUE));
+    CHECK(untouched(flags_again + 2 * FLAG, 2 * FLAG) && untouched(values_again + VALUE, 3 * VALUE));
+
+    /* A cell named twice is refused, whatever the room and what is kept. */
+    memcpy(file + 16 + FLAG, file + 16, CELL);
+    fill(flags_again, sizeof flags_again);
+    fill(values_again, sizeof values_again);
+    for (size_t room = 0; room <= 4; room++) {
+        load = tishkolan_survey_load(file, written.length, flags_again, room * FLAG, 7, values_again, VALUE, 8);
+        CHECK(refused(load.refusal, TISHKOLAN_BAD_FILE) && load.place == 16 + FLAG && load.flags == 7 && load.values == 8);
+    }
+    CHECK(untouched(flags_again, sizeof flags_again) && untouched(values_again, sizeof values_again));
+}
+
+/* ---- the order of a file's records */
+
+enum { MOST = TISHKOLAN_MOST_CELLS, HALF = -1 }; /* HALF stands for 2^127, of which the first bit alone is set */
+
+typedef struct {
+    int count; /* of records */
+    int last;  /* the ids are 0, 1, .. up to this one, which stands in the records behind it too; or -1: they are those named */
+    int id[4];
+} section;
+
+static void lay_id(uint8_t *record, int id)
+{
+    memset(record, 0, CELL);
+    if (id == HALF) {
+        record[0] = 0x80;
+    } else {
+        record[14] = (uint8_t)(id >> 8);
+        record[15] = (uint8_t)id;
+    }
+}
+
+/* The records of a section. What is kept in each is all ones, or a number of its own. */
+static void lay_section(uint8_t *to, section from, size_t record, bool numbered)
+{
+    for (int row = 0; row < from.count; row++, to += record) {
+        lay_id(to, from.last < 0 ? from.id[row] : row < from.last ? row : from.last);
+        memset(to + CELL, 0xFF, record - CELL);
+        if (numbered)
+            to[record - 2] = (uint8_t)(row >> 8), to[record - 1] = (uint8_t)row;
+    }
+}
+
+#define IDS(...) {sizeof((int[]){__VA_ARGS__}) / sizeof(int), -1, {__VA_ARGS__}}
+#define UP_TO(last, records) {records, last, {0}}
+#define NO_IDS {0, -1, {0}}
+
+static const struct {
+    section flags, values;
+    int more;                       /* bytes that the file has more than its records take */
+    size_t flags_room, values_room; /* records that the tables have room for */
+    uint32_t number;
+    uint64_t place;
+} orders[] = {
+    {IDS(5, 5), NO_IDS, 0, 4, 4, TISHKOLAN_BAD_FILE, 36},
+    {IDS(5, 4), NO_IDS, 0, 4, 4, TISHKOLAN_BAD_FILE, 36},
+    {IDS(1, 3, 2), NO_IDS, 0, 4, 4, TISHKOLAN_BAD_FILE, 56},
+    {IDS(1, 3, 2, 1), NO_IDS, 0, 4, 4, TISHKOLAN_BAD_FILE, 56}, /* the first, and the later of the two */
+    {NO_IDS, IDS(7, 7), 0, 4, 4, TISHKOLAN_BAD_FILE, 40},
+    {NO_IDS, IDS(1, 3, 2, 1), 0, 4, 4, TISHKOLAN_BAD_FILE, 64},
+    {IDS(1), IDS(2, 1), 0, 4, 4, TISHKOLAN_BAD_FILE, 60},
+    {IDS(2, 1), IDS(2, 1), 0, 4, 4, TISHKOLAN_BAD_FILE, 36}, /* flags before values, */
+    {IDS(1, 2, 2), IDS(2, 1), 0, 4, 4, TISHKOLAN_BAD_FILE, 56}, /* though these fall at an earlier record */
+    {IDS(5, 5), NO_IDS, 1, 4, 4, TISHKOLAN_BAD_FILE, 56},  /* the length before the order */
+    {IDS(5, 5), NO_IDS, -1, 4, 4, TISHKOLAN_BAD_FILE, 55},
+    {IDS(5, 5), NO_IDS, 0, 0, 0, TISHKOLAN_BAD_FILE, 36},  /* the order before the room */
+    {IDS(5, 5), NO_IDS, 0, 1, 0, TISHKOLAN_BAD_FILE, 36},
+    {IDS(1), IDS(2, 1), 0, 0, 4, TISHKOLAN_BAD_FILE, 60},
+    {IDS(1), IDS(2, 1), 0, 4, 1, TISHKOLAN_BAD_FILE, 60},
+    {IDS(HALF, 0), NO_IDS, 0, 4, 4, TISHKOLAN_BAD_FILE, 36}, /* ids are unsigned */
+    {NO_IDS, IDS(HALF, 0), 0, 4, 4, TISHKOLAN_BAD_FILE, 40},
+    {IDS(255, 256, 254), NO_IDS, 0, 4, 4, TISHKOLAN_BAD_FILE, 56},
+    {IDS(0, HALF), NO_IDS, 0, 4, 4, TISHKOLAN_ANSWERED, 0},
+    {NO_IDS, IDS(0, HALF), 0, 4, 4, TISHKOLAN_ANSWERED, 0},
+    {IDS(254, 255, 256, 257), IDS(255, 256), 0, 4, 4, TISHKOLAN_ANSWERED, 0},
+    {IDS(9), IDS(9), 0, 4, 4, TISHKOLAN_ANSWERED, 0}, /* each section by itself */
+    {IDS(8, 9), IDS(1, 2), 0, 2, 2, TISHKOLAN_ANSWERED, 0},
+    {IDS(8, 9), IDS(1, 2), 0, 1, 2, TISHKOLAN_NO_ROOM, 0},
+    {IDS(8, 9), IDS(1, 2), 0, 2, 1, TISHKOLAN_NO_ROOM, 0},
+    {UP_TO(1022, 1024), NO_IDS, 0, 1024, 1024, TISHKOLAN_BAD_FILE, 20476},
+    {UP_TO(1022, 1024), NO_IDS, 0, 1023, 1024, TISHKOLAN_BAD_FILE, 20476}, /* of 1,023 cells there would be room */
+    {NO_IDS, UP_TO(1022, 1024), 0, 1024, 1024, TISHKOLAN_BAD_FILE, 24568},
+    {UP_TO(1023, 1024), UP_TO(1022, 1024), 0, 1024, 1024, TISHKOLAN_BAD_FILE, 45048},
+    {UP_TO(1023, 1024), NO_IDS, 0, 1023, 1024, TISHKOLAN_NO_ROOM, 0},
+    {NO_IDS, UP_TO(1023, 1024), 0, 1024, 1023, TISHKOLAN_NO_ROOM, 0},
+    {UP_TO(1023, 1024), UP_TO(1023, 1024), 0, 1024, 1024, TISHKOLAN_ANSWERED, 0},
+    {UP_TO(1021, 1022), UP_TO(1020, 1021), 0, 1024, 1024, TISHKOLAN_ANSWERED, 0},
+};
+
+/* Each file twice: with one number kept in all records, into tables that end with their last record; with other numbers, into tables that go on. */
+static void order_of_records(void)
+{
+    enum { BEHIND = 7 };
+    static uint8_t file[TISHKOLAN_FILE_BYTES + 1], flags[MOST * FLAG + BEHIND], values[MOST * VALUE + BEHIND];
+
+    for (size_t i = 0; i < 2 * sizeof orders / sizeof orders[0]; i++) {
+        const size_t row = i / 2, behind = i % 2 * BEHIND;
+        const size_t flag_count = (size_t)orders[row].flags.count, value_count = (size_t)orders[row].values.count;
+        const size_t flags_room = orders[row].flags_room * FLAG, values_room = orders[row].values_room * VALUE;
+        const size_t flag_bytes = flag_count * FLAG, value_bytes = value_count * VALUE, values_at = 16 + flag_bytes;
+        const uint8_t header[16] = {0, 1, (uint8_t)(flag_count >> 8), (uint8_t)flag_count, (uint8_t)(value_count >> 8), (uint8_t)value_count,
+                                    0, 0, 0, 0, 0, 16, 0, 0, (uint8_t)(values_at >> 8), (uint8_t)values_at};
+        const int before = failed;
+
+        memcpy(file, header, sizeof header);
+        lay_section(file + 16, orders[row].flags, FLAG, behind > 0);
+        lay_section(file + values_at, orders[row].values, VALUE, behind > 0);
+        fill(flags, sizeof flags);
+        fill(values, sizeof values);
+        tishkolan_load_answer load = tishkolan_survey_load(
+            file, values_at + value_bytes + (size_t)orders[row].more,
+            flags_room + behind == 0 ? NULL : flags, flags_room + behind, 99, values_room + behind == 0 ? NULL : values, values_room + behind, 98);
+        CHECK(is(load.refusal, orders[row].number, orders[row].number == TISHKOLAN_NO_ROOM ? 4 : 0, 0, 0, 0) && load.place == orders[row].place);
+        if (orders[row].number == TISHKOLAN_ANSWERED) {
+            CHECK(load.flags == flag_count && load.values == value_count);
+            CHECK(same(flags, file + 16, flag_bytes) && zero(flags + flag_bytes, flags_room - flag_bytes));
+            CHECK(same(values, file + values_at, value_bytes) && zero(values + value_bytes, values_room - value_bytes));
+            CHECK(untouched(flags + flags_room, sizeof flags - flags_room) && untouched(values + values_room, sizeof values - values_room));
+        } else {
+            CHECK(load.flags == 99 && load.values == 98);
+            CHECK(untouched(flags, sizeof flags) && untouched(values, sizeof values));
+        }
+        if (failed != before)
+            printf("  file %zu of the order of records: refusal %u room %u, place %llu\n", row, load.refusal.number, load.refusal.room, (unsigned long long)load.place);
+    }
 }
 
 int main(void)
@@ -364,6 +498,7 @@ int main(void)
     bad_layers();
     aggregates();
     surveys();
+    order_of_records();
     printf("layer calls: %d claims hold, %d do not\n", passed, failed);
     return failed != 0;
 }

@@ -21,14 +21,16 @@ enum {
     KNOWN = 1 + TISHKOLAN_NEIGHBORS - SHUT,
     WAITING = TISHKOLAN_NEIGHBORS - SHUT,
     RING = 1 + TISHKOLAN_NEIGHBORS,      /* cells of a ring of one step */
-    FILE_BYTES = 16 + 3 * FLAG + 3 * VALUE
+    FILE_BYTES = 16 + 3 * FLAG + 3 * VALUE,
+    LAST_RECORD = FILE_BYTES - VALUE     /* where a file's last record begins */
 };
 
 /* ---- what is lent */
 
 static uint8_t first_cell[SOURCE], second_cell[SOURCE], new_cell[SOURCE], line_end[SOURCE], near_cell[SOURCE];
 static uint8_t flag_table[SOURCE], value_table[SOURCE], shut_table[SOURCE], pattern[SOURCE];
-static uint8_t list[SOURCE], route[SOURCE], route_goal[SOURCE], file[SOURCE];
+static uint8_t list[SOURCE], route[SOURCE], route_goal[SOURCE];
+static uint8_t file[SOURCE], doubled_file[SOURCE]; /* the second's last cell is the one before it again */
 static uint8_t label[SOURCE], ended_label[SOURCE]; /* behind the first stand characters of labels, behind the other none */
 static uint64_t route_cost;
 static size_t parents[MOST_CELLS + 1]; /* of the first so many cells of the value table */
@@ -321,13 +323,13 @@ static void survey_load(void)
     front[1] = room(1, FLAG) * FLAG;
     front[2] = room(2, VALUE) * VALUE;
     said = answer.refusal;
-    fields_hold = answer.place == (said.number == TISHKOLAN_BAD_FILE ? least(length[0], FILE_BYTES) : 0)
+    fields_hold = answer.place == (said.number != TISHKOLAN_BAD_FILE ? 0 : length[0] == FILE_BYTES ? LAST_RECORD : least(length[0], FILE_BYTES))
         && answer.flags == (said.number == 0 ? 3 : number[0]) && answer.values == (said.number == 0 ? 3 : number[1]);
 }
 
 static uint32_t of_load(void)
 {
-    if (length[0] != FILE_BYTES)
+    if (length[0] != FILE_BYTES || current->buffer[0].source == doubled_file)
         return TISHKOLAN_BAD_FILE;
     return room(1, FLAG) < 3 || room(2, VALUE) < 3 ? no_room_of(4) : 0;
 }
@@ -559,6 +561,8 @@ static const call all[] = {
      LENT(2){LAYER(VALUES, value_table, 0), {TARGET, 1, pattern, 6 * VALUE, -1}}, WITH(3){{COUNT, 3}, {HOW, TISHKOLAN_SUM}, {COUNT, 77}}},
     {"survey_load", survey_load, of_load, N(BAD_FILE) | N(NO_ROOM),
      LENT(3){{GIVEN, 1, file, FILE_BYTES, -1}, {TARGET, 1, pattern, 6 * FLAG, -1}, {TARGET, 1, pattern, 6 * VALUE, -1}}, WITH(2){{COUNT, 77}, {COUNT, 78}}},
+    {"survey_load, a cell twice", survey_load, of_load, N(BAD_FILE) | N(NO_ROOM),
+     LENT(3){{GIVEN, 1, doubled_file, FILE_BYTES, -1}, {TARGET, 1, pattern, 6 * FLAG, -1}, {TARGET, 1, pattern, 6 * VALUE, -1}}, WITH(2){{COUNT, 77}, {COUNT, 78}}},
     {"survey_write", survey_write, of_write, N(BAD_LAYER) | N(NO_ROOM),
      LENT(3){LAYER(FLAGS, flag_table, 0), LAYER(VALUES, value_table, 1), TO(1024, 1)}, WITH(2){{COUNT, 3}, {COUNT, 3}}},
 
@@ -853,6 +857,8 @@ static void lay_sources(void)
     memcpy(label, "cx3d1qqqqqqqqqqqqqqqqqqqqqqqqqqchrr7t", TISHKOLAN_LABEL_BYTES);
     memcpy(ended_label, label, TISHKOLAN_LABEL_BYTES);
     CHECK(tishkolan_survey_write(flag_table, SOURCE, 3, value_table, SOURCE, 3, file, FILE_BYTES).length == FILE_BYTES);
+    memcpy(doubled_file, file, SOURCE);
+    memcpy(doubled_file + LAST_RECORD, doubled_file + LAST_RECORD - VALUE, CELL);
     /* The parents of a row of cells are a row themselves. */
     for (size_t cells = 1; cells <= MOST_CELLS; cells++) {
         uint8_t parent[CELL], before[CELL] = {0};

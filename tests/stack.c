@@ -26,7 +26,7 @@ enum {
 /* ---- what the calls are lent; made anew before each */
 
 static uint8_t flags[MOST * FLAG], values[MOST * VALUE], wall[MOST * FLAG], heap_of_values[MOST * VALUE], coarse[MOST * VALUE];
-static uint8_t list[LIST * CELL], file[TISHKOLAN_FILE_BYTES], out[TISHKOLAN_FILE_BYTES + ROOM * CELL];
+static uint8_t list[LIST * CELL], file[TISHKOLAN_FILE_BYTES], doubled_file[TISHKOLAN_FILE_BYTES], out[TISHKOLAN_FILE_BYTES + ROOM * CELL];
 static uint8_t known[TISHKOLAN_SEARCH_KNOWN_BYTES(ROOM)], waiting[TISHKOLAN_SEARCH_WAITING_BYTES(ROOM)];
 static uint8_t ring[TISHKOLAN_RING_BYTES(ROOM)];
 static uint8_t here[CELL], far[CELL], fine[CELL], odd[CELL], missing[CELL], mixed[CELL], edge[CELL], end[CELL], first[CELL];
@@ -88,7 +88,7 @@ static void prepare(void)
     for (int i = 0; i < LIST; i++)
         memcpy(list + i * CELL, values + (i * 389) % MOST * VALUE, CELL);
 
-    /* A file of 1,024 records of each kind in no order. */
+    /* A file of 1,024 records of each kind, and one whose last cell is the one before it again. */
     file_length = sizeof file;
     put(file, 1, 2);
     put(file + 2, MOST, 2);
@@ -96,10 +96,10 @@ static void prepare(void)
     put(file + 6, 0, 2);
     put(file + 8, 16, 4);
     put(file + 12, 16 + MOST * FLAG, 4);
-    for (int i = 0; i < MOST; i++) {
-        memcpy(file + 16 + i * FLAG, flags + (i * 389) % MOST * FLAG, FLAG);
-        memcpy(file + 16 + MOST * FLAG + i * VALUE, values + (i * 389) % MOST * VALUE, VALUE);
-    }
+    memcpy(file + 16, flags, sizeof flags);
+    memcpy(file + 16 + sizeof flags, values, sizeof values);
+    memcpy(doubled_file, file, sizeof file);
+    memcpy(doubled_file + sizeof file - VALUE, doubled_file + sizeof file - 2 * VALUE, CELL);
 }
 
 /* A route of 1,024 cells along x in `list`, and its cost. */
@@ -257,6 +257,7 @@ CALL(tishkolan_values_rollup, WHOLE(values), MOST, TISHKOLAN_MEDIAN, coarse, 24,
 CALL(tishkolan_survey_load, file, file_length, WHOLE(flags), 0, WHOLE(values), 0)
 CALL(tishkolan_survey_load, file, file_length, flags, 20, 0, WHOLE(values), 0)
 CALL(tishkolan_survey_load, file, file_length - 1, WHOLE(flags), 0, WHOLE(values), 0)
+CALL(tishkolan_survey_load, doubled_file, file_length, WHOLE(flags), 0, WHOLE(values), 0)
 CALL(tishkolan_survey_write, WHOLE(flags), MOST, WHOLE(values), MOST, WHOLE(out))
 CALL(tishkolan_survey_write, WHOLE(flags), MOST, WHOLE(values), MOST, out, 7)
 CALL(tishkolan_trace_line, WHOLE(here), WHOLE(end), WHOLE(out))
@@ -330,6 +331,7 @@ static bool answer(void)
     all &= tishkolan_values_rollup(WHOLE(values), MOST, TISHKOLAN_MEDIAN, WHOLE(coarse), 0).count > 1;
     all &= tishkolan_survey_write(WHOLE(flags), MOST, WHOLE(values), MOST, WHOLE(out)).length == file_length;
     all &= tishkolan_survey_load(file, file_length, WHOLE(flags), 0, WHOLE(values), 0).values == MOST;
+    all &= tishkolan_survey_load(doubled_file, file_length, WHOLE(flags), 0, WHOLE(values), 0).place == file_length - VALUE;
     all &= tishkolan_k_ring(WHOLE(here), RING, ROOM, ROOM, WHOLE(ring), WHOLE(out)).count == TISHKOLAN_RING_KNOWN(RING);
     all &= tishkolan_trace_line(WHOLE(here), WHOLE(end), WHOLE(out)).count > 2;
     all &= tishkolan_astar(WHOLE(here), WHOLE(far), WHOLE(wall), walls, TISHKOLAN_AVOIDING, ROOMS).cells > 2;

@@ -40,6 +40,16 @@ pub trait Called: Copy + 'static {
 
     /// Under which number an answer is counted.
     fn counted(answer: &Answer) -> u32;
+
+    /// Kinds of requests that are counted apart; all of them have to come.
+    fn kinds() -> &'static [&'static str] {
+        &[]
+    }
+
+    /// The place of a request's kind among those, where it has one.
+    fn kind(_request: &Request<Self>, _answer: &Answer) -> Option<usize> {
+        None
+    }
 }
 
 /// One call with its arguments and all that it is lent.
@@ -137,6 +147,14 @@ impl<Call: Called> Asked for Request<Call> {
 
     fn counted(wanted: &Answer) -> u32 {
         Call::counted(wanted)
+    }
+
+    fn kinds() -> &'static [&'static str] {
+        Call::kinds()
+    }
+
+    fn kind(&self, wanted: &Answer) -> Option<usize> {
+        Call::kind(self, wanted)
     }
 
     fn judge(&self, wanted: &Answer, said: &mut &[u8]) -> Vec<String> {

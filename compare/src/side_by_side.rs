@@ -43,6 +43,17 @@ pub trait Asked: Clone {
     /// a verdict or a choice.
     fn counted(wanted: &Self::Wanted) -> u32;
 
+    /// Kinds of inputs that are counted apart, since their numbers do not tell them from each other.
+    /// A comparison in which one of them never came compared too little.
+    fn kinds() -> &'static [&'static str] {
+        &[]
+    }
+
+    /// The place of its kind among those, where it has one.
+    fn kind(&self, _wanted: &Self::Wanted) -> Option<usize> {
+        None
+    }
+
     /// Takes what the library said off the front, and says what is wrong with it.
     fn judge(&self, wanted: &Self::Wanted, said: &mut &[u8]) -> Vec<String>;
 
@@ -69,6 +80,8 @@ struct Comparison<R: Asked> {
     waiting: Vec<R>,
     batch: Vec<u8>,
     found: Vec<Found<R>>,
+    /// How often each kind came.
+    kinds: Vec<u64>,
     endings: u64,
 }
 
@@ -146,6 +159,9 @@ impl<R: Asked> Comparison<R> {
         let found = &mut self.found[usize::from(request.number())];
         found.compared += 1;
         found.due[R::counted(wanted) as usize] += 1;
+        if let Some(kind) = request.kind(wanted) {
+            self.kinds[kind] += 1;
+        }
         if !wrong.is_empty() {
             self.differ(request, wrong.join("; "));
         }
@@ -187,7 +203,19 @@ impl<R: Asked> Comparison<R> {
             }
         }
         total.print("all");
+        for (name, came) in R::kinds().iter().zip(&self.kinds) {
+            println!("{name:28} {came:>10}");
+        }
         total.differences == 0
+    }
+
+    /// The kinds that never came.
+    fn missing(&self) -> Vec<&'static str> {
+        let kinds = R::kinds().iter().zip(&self.kinds);
+        kinds
+            .filter(|(_, came)| **came == 0)
+            .map(|(name, _)| *name)
+            .collect()
     }
 }
 
@@ -275,6 +303,7 @@ pub fn run<R: Asked>(
         waiting: Vec::new(),
         batch: Vec::new(),
         found: (0..=last).map(|_| Found::none()).collect(),
+        kinds: vec![0; R::kinds().len()],
         endings: 0,
     };
 
@@ -292,6 +321,10 @@ pub fn run<R: Asked>(
     comparison.flush();
 
     let same = comparison.report();
+    let missing = comparison.missing();
     comparison.pipe.end();
+    if same && !missing.is_empty() {
+        fail(program, &format!("never came: {}", missing.join("; ")));
+    }
     std::process::exit(if same { 0 } else { 1 });
 }

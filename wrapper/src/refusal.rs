@@ -91,7 +91,8 @@ pub enum Refusal {
     BadWorkspace,
     /// The bytes are not a survey file.
     BadFile {
-        /// The byte at which that was seen.
+        /// The byte at which that was seen: of records that do not ascend, the first of the record that is not above
+        /// the one before it.
         place: u64,
     },
     /// The number of bytes of a list of cells is not a multiple of 16.

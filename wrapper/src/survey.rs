@@ -10,9 +10,11 @@ pub const fn survey_bytes(flags: usize, values: usize) -> usize {
         .saturating_add(ValueLayer::bytes(values))
 }
 
-/// Replaces both layers by those of a file, or neither. A later record of a cell replaces an earlier one.
+/// Replaces both layers by those of a file, or neither. The flag records have to be strictly ascending by cell, and so
+/// have the value records; one cell may have a record of each.
 ///
-/// [`Refusal::BadFile`] with the byte place; [`Refusal::NoRoom`] of a layer.
+/// [`Refusal::BadFile`] with the byte place: that of the head's fault, or the length; else where the first record begins
+/// that is not above the one before it, of flags before values. [`Refusal::NoRoom`] of a layer.
 ///
 /// ```
 /// use tishkolan::{load_survey, survey_bytes, write_survey, Cell, FlagLayer, Flags, Refusal, ValueLayer};
@@ -31,6 +33,12 @@ pub const fn survey_bytes(flags: usize, values: usize) -> usize {
 /// load_survey(file, &mut flags, &mut values)?;
 /// assert_eq!(flags.get(&Cell([1; 16]))?, Some(Flags::BLOCKED));
 /// assert_eq!(load_survey(&file[..59], &mut flags, &mut values), Err(Refusal::BadFile { place: 59 }));
+///
+/// // The flag record once more: the second of the two begins at byte 36.
+/// let mut twice = [&file[..36], &file[16..]].concat();
+/// twice[3] = 2;
+/// twice[15] = 16 + 2 * 20;
+/// assert_eq!(load_survey(&twice, &mut flags, &mut values), Err(Refusal::BadFile { place: 36 }));
 /// # Ok::<(), Refusal>(())
 /// ```
 pub fn load_survey(

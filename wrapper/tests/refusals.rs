@@ -284,6 +284,76 @@ fn bad_file() {
     assert_eq!(values.count(), Ok(0));
 }
 
+/// A file of these cells by their numbers; what is kept of each is 1.
+fn survey(flags: &[u128], values: &[u128]) -> Vec<u8> {
+    let (f, v) = (flags.len() as u16, values.len() as u16);
+    let mut file: Vec<u8> = [1, f, v, 0].iter().flat_map(|h| h.to_be_bytes()).collect();
+    file.extend(16_u32.to_be_bytes());
+    file.extend((16 + 20 * u32::from(f)).to_be_bytes());
+    for cell in flags {
+        file.extend(cell.to_be_bytes());
+        file.extend(1_u32.to_be_bytes());
+    }
+    for cell in values {
+        file.extend(cell.to_be_bytes());
+        file.extend(1.0_f64.to_be_bytes());
+    }
+    file
+}
+
+#[test]
+fn files_that_do_not_ascend() {
+    let numbered = |number: u128| Cell(number.to_be_bytes());
+    let (mut flag_table, mut value_table) = ([0; FlagLayer::bytes(4)], [0; ValueLayer::bytes(4)]);
+    let mut flags = FlagLayer::new(&mut flag_table);
+    let mut values = ValueLayer::new(&mut value_table);
+    flags.set(&numbered(6), Flags::WATER).unwrap();
+    values.set(&numbered(8), 1.5).unwrap();
+    let longer = |more: &[u8]| [&survey(&[5, 5], &[])[..], more].concat();
+    for (file, place) in [
+        (survey(&[5, 5], &[]), 36),
+        (survey(&[5, 4], &[]), 36),
+        (survey(&[1, 3, 2], &[]), 56),
+        (survey(&[1, 3, 2, 1], &[]), 56),
+        (survey(&[], &[7, 7]), 40),
+        (survey(&[1], &[2, 1]), 60),
+        (survey(&[2, 1], &[2, 1]), 36),
+        (survey(&[1 << 127, 0], &[]), 36),
+        // The length before the order, the order before the room.
+        (longer(&[0]), 56),
+        (longer(&[])[..55].to_vec(), 55),
+        (survey(&[1, 2, 3, 4, 5, 5], &[]), 116),
+        (survey(&[1, 2, 3, 4, 5], &[2, 1]), 140),
+    ] {
+        let refused = Err(Refusal::BadFile { place });
+        assert_eq!(load_survey(&file, &mut flags, &mut values), refused);
+        assert_eq!((flags.count(), values.count()), (Ok(1), Ok(1)));
+        assert_eq!(flags.get(&numbered(6)), Ok(Some(Flags::WATER)));
+        assert_eq!(values.get(&numbered(8)), Ok(Some(1.5)));
+    }
+    // The room is that of the counts.
+    let file = survey(&[1, 2, 3, 4, 5], &[]);
+    assert_eq!(
+        load_survey(&file, &mut flags, &mut values),
+        Err(Refusal::NoRoom(Room::Layer))
+    );
+    assert_eq!((flags.count(), values.count()), (Ok(1), Ok(1)));
+    for (of_flags, of_values) in [(&[0, 1 << 127][..], &[][..]), (&[9], &[9])] {
+        let file = survey(of_flags, of_values);
+        assert_eq!(load_survey(&file, &mut flags, &mut values), Ok(()));
+        assert_eq!(
+            (flags.count(), values.count()),
+            (Ok(of_flags.len()), Ok(of_values.len()))
+        );
+        for &number in of_flags {
+            assert_eq!(flags.get(&numbered(number)), Ok(Some(Flags(1))));
+        }
+        for &number in of_values {
+            assert_eq!(values.get(&numbered(number)), Ok(Some(1.0)));
+        }
+    }
+}
+
 #[test]
 fn lists_without_room() {
     let mut out = [Cell([0xA5; 16]); 15];

@@ -1,6 +1,7 @@
 //! The calls of include/tishkolan.h on layers: their numbers, and one request for one of them.
 
 use super::expected::expected;
+use super::survey::{self, Fault};
 use crate::lent::{self, Answer, Called};
 
 /// Which of the two kinds of layer.
@@ -119,5 +120,28 @@ impl Called for Call {
 
     fn counted(answer: &Answer) -> u32 {
         answer.refusal.number
+    }
+
+    fn kinds() -> &'static [&'static str] {
+        &[
+            "files loaded",
+            "files without room",
+            "files with a bad head",
+            "flags that do not ascend",
+            "values that do not ascend",
+        ]
+    }
+
+    fn kind(request: &Request, answer: &Answer) -> Option<usize> {
+        if request.call != Call::Load {
+            return None;
+        }
+        Some(match survey::sections(&request.buffers[0]) {
+            Ok(_) if answer.refusal.number == 0 => 0,
+            Ok(_) => 1,
+            Err((Fault::Head, _)) => 2,
+            Err((Fault::Flags, _)) => 3,
+            Err((Fault::Values, _)) => 4,
+        })
     }
 }

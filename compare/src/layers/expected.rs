@@ -167,13 +167,16 @@ fn rollup(numbers: &[u64], buffers: &mut [Vec<u8>]) -> Said {
 }
 
 fn load(buffers: &mut [Vec<u8>]) -> Said {
-    let (flags, values) = survey::load(&buffers[0]).map_err(|place| Refused {
+    let [file, flags, values] = buffers else {
+        unreachable!()
+    };
+    let [flag_records, value_records] = survey::sections(file).map_err(|(_, place)| Refused {
         refusal: Refusal::plain(BAD_FILE),
         place,
     })?;
-    table::replace(&mut buffers[1], &flags)?;
-    table::replace(&mut buffers[2], &values)?;
-    says(&[0, flags.len() as u64, values.len() as u64])
+    let flags = table::lay::<u32>(flags, flag_records)?;
+    let values = table::lay::<f64>(values, value_records)?;
+    says(&[0, flags, values])
 }
 
 fn write(numbers: &[u64], buffers: &mut [Vec<u8>]) -> Said {

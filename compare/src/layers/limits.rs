@@ -118,6 +118,7 @@ pub fn limits(sink: Sink) {
     rollups(sink);
     rollup_rooms(sink);
     files(sink);
+    file_orders(sink);
     faults(sink);
     large_files(sink);
     writes(sink);
@@ -165,6 +166,22 @@ fn shapes(sink: Sink) {
     }
 }
 
+/// Ascending cells with the one at this place not above the one before it: the two exchanged, the
+/// earlier twice, then the least cell in place of the later, the largest in place of the earlier.
+fn broken(cells: &[u128], place: usize) -> [Vec<u128>; 4] {
+    let change = |change: fn(&mut [u128])| {
+        let mut cells = cells.to_vec();
+        change(&mut cells[place - 1..=place]);
+        cells
+    };
+    [
+        change(|pair| pair.swap(0, 1)),
+        change(|pair| pair[1] = pair[0]),
+        change(|pair| pair[1] = 0),
+        change(|pair| pair[0] = u128::MAX),
+    ]
+}
+
 /// Records that are not strictly ascending, at each place, within the count and behind it.
 fn orders(sink: Sink) {
     for of in Of::BOTH {
@@ -185,16 +202,7 @@ fn orders(sink: Sink) {
         for records in 2..=9 {
             let counts: Vec<usize> = (0..=records).collect();
             for place in 1..records {
-                let sorted = row(records);
-                let mut swapped = sorted.clone();
-                swapped.swap(place - 1, place);
-                let mut doubled = sorted.clone();
-                doubled[place] = doubled[place - 1];
-                let mut zero = sorted.clone();
-                zero[place] = 0;
-                let mut largest = sorted.clone();
-                largest[place - 1] = u128::MAX;
-                for cells in [swapped, doubled, zero, largest] {
+                for cells in broken(&row(records), place) {
                     try_cells(&cells, &counts);
                 }
             }
@@ -538,20 +546,19 @@ fn load(file: &[u8], flags: usize, values: usize, sink: Sink) {
     }
 }
 
-/// Small files: records in every order, repeats, tables with too little room, one byte off.
+/// Small files: tables of every room around theirs, every length up to theirs and some more.
 fn files(sink: Sink) {
-    for flags in 0..4 {
-        for values in 0..4 {
-            for turn in 0..4usize {
-                let mut cells = row(4);
-                cells.rotate_left(turn);
-                let mut others = cells.clone();
-                // Repeats: beside each other, apart, all.
-                match turn {
-                    1 => cells[1] = cells[0],
-                    2 => cells[2] = cells[0],
-                    3 => others = vec![others[0]; 4],
-                    _ => {}
+    for flags in 0..4usize {
+        for values in 0..4usize {
+            for turn in 0..4 {
+                let mut cells = row(5);
+                let mut others = cells[turn % 2..].to_vec();
+                // The last record of a section is not above the one before it.
+                if turn == 2 && flags > 1 {
+                    cells[flags - 1] = cells[flags - 2];
+                }
+                if turn == 3 && values > 1 {
+                    others.swap(values - 2, values - 1);
                 }
                 let bytes = file(&kept(&cells[..flags]), &kept(&others[..values]));
                 for room in 0..=flags + 1 {
@@ -571,12 +578,84 @@ fn files(sink: Sink) {
     }
 }
 
-/// Each fault of a file alone and each two of them; every bit of the head.
+/// Every sequence of up to this many of these cells.
+fn sequences(cells: &[u128], most: usize) -> Vec<Vec<u128>> {
+    let mut all = vec![vec![]];
+    let mut from = 0;
+    for _ in 0..most {
+        let end = all.len();
+        for place in from..end {
+            for &cell in cells {
+                let longer = [&all[place][..], &[cell]].concat();
+                all.push(longer);
+            }
+        }
+        from = end;
+    }
+    all
+}
+
+/// Files whose sections ascend or not: which record is told, and what comes before and behind it.
+fn file_orders(sink: Sink) {
+    // Up to three records of three cells in each section, in every order and with every repeat.
+    let small = sequences(&row(3), 3);
+    for flags in &small {
+        for values in &small {
+            let bytes = file(&kept(flags), &kept(values));
+            let longer = [&bytes[..], &[0]].concat();
+            let (room, other) = (20 * flags.len(), 24 * values.len());
+            load(&bytes, room, other, sink);
+            load(&bytes, room.saturating_sub(1), other, sink);
+            load(&bytes, room, other.saturating_sub(1), sink);
+            load(&bytes[..bytes.len() - 1], room, other, sink);
+            load(&longer, room, other, sink);
+        }
+    }
+    let mut in_each = |cells: &[u128]| {
+        let records = kept(cells);
+        for room in [cells.len() - 1, cells.len()] {
+            load(&file(&records, &[]), 20 * room, 24, sink);
+            load(&file(&[], &records), 20, 24 * room, sink);
+            load(&file(&records, &records), 20 * room, 24 * room, sink);
+        }
+    };
+    // At one place, and at two: the first is told.
+    for records in 4..=9 {
+        for place in 1..records {
+            for cells in broken(&row(records), place) {
+                in_each(&cells);
+                for again in place + 1..records {
+                    broken(&cells, again)
+                        .iter()
+                        .for_each(|cells| in_each(cells));
+                }
+            }
+        }
+    }
+    // All 128 bits of an id count, and it has no sign.
+    for base in [0, u128::MAX, 0x7FFF_FFFF_8000_0000_7FFF_FFFF_8000_0000] {
+        for bit in 0..128 {
+            let other = base ^ 1 << bit;
+            in_each(&[base, other]);
+            in_each(&[other, base]);
+            in_each(&[base, base ^ 1 << 127, other]);
+        }
+    }
+}
+
+/// Each fault of a head alone and each two of them; every bit of the head. Also before records that
+/// do not ascend.
 fn faults(sink: Sink) {
     let cells = row(3);
-    let good = file(&kept(&cells[..2]), &kept(&cells[1..]));
+    let falling: Vec<u128> = cells.iter().rev().copied().collect();
+    for cells in [cells, falling] {
+        head_faults(&file(&kept(&cells[..2]), &kept(&cells[1..])), sink);
+    }
+}
+
+fn head_faults(good: &[u8], sink: Sink) {
     for bit in 0..128 {
-        let mut bytes = good.clone();
+        let mut bytes = good.to_vec();
         bytes[bit / 8] ^= 128 >> (bit % 8);
         load(&bytes, 60, 72, sink);
         load(&bytes, 0, 0, sink);
@@ -602,7 +681,7 @@ fn faults(sink: Sink) {
     for one in heads {
         for other in heads {
             for length in [15, 16, 17, good.len() - 1, good.len(), good.len() + 1] {
-                let mut bytes = [&good[..], &[0; 4]].concat();
+                let mut bytes = [good, &[0; 4]].concat();
                 for (place, halves) in [one, other] {
                     bytes[place..place + 2].copy_from_slice(&halves);
                 }
@@ -613,7 +692,8 @@ fn faults(sink: Sink) {
     }
 }
 
-/// Files of 1,024 records and counts of 1,025, tables at the limit.
+/// Files of 1,024 records and counts of 1,025, tables at the limit; and files that do not ascend in
+/// the first, a middle and the last record.
 fn large_files(sink: Sink) {
     let ascending = kept(&row(1024));
     let descending: Vec<(u128, u64)> = ascending.iter().rev().copied().collect();
@@ -639,6 +719,27 @@ fn large_files(sink: Sink) {
             load(&[&bytes[..], &[0]].concat(), 20480, 24576, sink);
         }
     }
+    for place in [1, 2, 512, 1022, 1023] {
+        for cells in broken(&row(1024), place) {
+            let records = kept(&cells);
+            for bytes in [
+                file(&records, &ascending),
+                file(&ascending, &records),
+                file(&records, &records),
+            ] {
+                load(&bytes, 20480, 24576, sink);
+                load(&bytes, 20479, 24575, sink);
+                load(&bytes[..bytes.len() - 1], 20480, 24576, sink);
+                load(&[&bytes[..], &[0]].concat(), 20480, 24576, sink);
+            }
+        }
+    }
+    // The least ids there are, the last of them twice.
+    let mut least: Vec<u128> = (0..1024).collect();
+    load(&file(&kept(&least), &[]), 20460, 0, sink);
+    load(&file(&kept(&least), &[]), 20480, 0, sink);
+    least[1023] = 1022;
+    load(&file(&kept(&least), &[]), 20480, 0, sink);
 }
 
 /// Files of small layers into every room; layers that are none.

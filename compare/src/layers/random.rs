@@ -254,34 +254,76 @@ fn rollup(random: &mut Random) -> Request {
     Request::new(Call::Rollup, &numbers, &[&fine, &coarse])
 }
 
-fn load(random: &mut Random) -> Request {
-    let sizes = [random.size(), random.size()];
+/// A section's records, ascending, each cell once.
+fn section(random: &mut Random, mood: Mood) -> Vec<(u128, u64)> {
+    let size = random.size();
+    let mut cells = random.pool(size);
+    cells.sort();
+    cells.dedup();
+    let kept = |cell| (cell, random.value(mood));
+    cells.into_iter().map(kept).collect()
+}
+
+/// Puts a record that is not above the one before it somewhere: by an equal neighbour or a fall, of
+/// one record or of all; mostly the first record, a middle one or the last that can be such a one.
+fn disorder(random: &mut Random, records: &mut [(u128, u64)]) {
+    let Some(last) = records.len().checked_sub(1).filter(|&last| last > 0) else {
+        return;
+    };
+    let place = match random.below(4) {
+        0 => 1,
+        1 => last,
+        _ => 1 + random.below(last as u64) as usize,
+    };
+    let earlier = records[place - 1];
+    match random.below(10) {
+        0 => records[place] = earlier,
+        1..=2 => records[place].0 = earlier.0,
+        3 => records[place - 1].0 = records[place].0,
+        4..=5 => records.swap(place - 1, place),
+        6 => records[place].0 = earlier.0.saturating_sub(1),
+        7 => records[place].0 = earlier.0 & !(1 << random.below(128)),
+        // Two files one behind the other, each of them ascending.
+        8 => records.rotate_left(place),
+        _ => records.reverse(),
+    }
+}
+
+/// A survey file and two tables. Most files ascend; of the others some have another fault besides,
+/// so that it shows which is told.
+pub fn load(random: &mut Random) -> Request {
     let mood = random.mood();
-    let [flags, values] = sizes.map(|size| {
-        let kinds = 1 + random.below(2 * size as u64 + 1) as usize;
-        let pool = random.pool(kinds);
-        let draw = |random: &mut Random| (random.one_of(&pool), random.value(mood));
-        (0..size).map(|_| draw(random)).collect::<Vec<_>>()
-    });
+    let mut flags = section(random, mood);
+    let mut values = section(random, mood);
+    match random.below(20) {
+        0..=2 => disorder(random, &mut flags),
+        3..=5 => disorder(random, &mut values),
+        6 => {
+            disorder(random, &mut flags);
+            disorder(random, &mut values);
+        }
+        _ => {}
+    }
     let mut bytes = file(&flags, &values);
-    if random.below(6) == 0 {
+    random.damage(&mut bytes);
+    if random.below(12) == 0 {
         let place = random.below(16) as usize;
         bytes[place] = bytes[place].wrapping_add(random.one_of(&[1, 255, 4, 128]));
     }
-    match random.below(16) {
+    match random.below(20) {
         0 => bytes.truncate(random.below(bytes.len() as u64 + 1) as usize),
-        1 => bytes.extend(vec![0; 1 + random.below(30) as usize]),
+        1 => {
+            bytes.pop();
+        }
+        2 => bytes.extend(vec![0; 1 + random.below(30) as usize]),
         _ => {}
     }
-    let distinct = |records: &[(u128, u64)]| {
-        let mut cells: Vec<u128> = records.iter().map(|record| record.0).collect();
-        cells.sort();
-        cells.dedup();
-        cells.len()
-    };
-    let lengths = [20 * distinct(&flags), 24 * distinct(&values)];
-    let tables = lengths.map(|need| {
-        let length = random.near(need);
+    let tight = random.below(2) == 0;
+    let tables = [20 * flags.len(), 24 * values.len()].map(|need| {
+        let length = match tight {
+            true => random.near(need),
+            false => need + random.below(60) as usize,
+        };
         random.bytes(length)
     });
     let numbers = [random.next() >> random.below(64), random.below(9)];

@@ -95,13 +95,20 @@ pub fn put<T: Kept>(table: &mut [u8], layer: &Layer<T>) {
     table[..records.len()].copy_from_slice(&records);
 }
 
-/// Replaces all contents of a table: unused whole records within the limit become zero. NoRoom 4.
+/// Replaces all contents of a table by a layer. NoRoom 4.
 pub fn replace<T: Kept>(table: &mut [u8], layer: &Layer<T>) -> Result<(), Refusal> {
+    lay::<T>(table, &records(layer)).map(|_| ())
+}
+
+/// Replaces all contents of a table by these records as they stand, and says how many they are:
+/// unused whole records within the limit become zero. NoRoom 4.
+pub fn lay<T: Kept>(table: &mut [u8], records: &[u8]) -> Result<u64, Refusal> {
     let limit = limit::<T>(table);
-    if layer.len() > limit {
+    let count = records.len() / T::WIDTH;
+    if count > limit {
         return Err(Refusal::no_room(4));
     }
     table[..limit * T::WIDTH].fill(0);
-    put(table, layer);
-    Ok(())
+    table[..records.len()].copy_from_slice(records);
+    Ok(count as u64)
 }

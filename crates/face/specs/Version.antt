@@ -7,7 +7,7 @@ major = 0
 
 -- more calls, or others
 abbrev pub minor : ℕ
-minor = 3
+minor = 4
 
 -- no other calls and structs
 abbrev pub patch : ℕ

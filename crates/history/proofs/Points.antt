@@ -14,11 +14,12 @@ use Rattle.cell.specs.Cell.{coordOf, packed, parentOf}
 use Rattle.cell.specs.Bytes.{cellAt, cellBytes, fromBytesOf}
 use Rattle.table.specs.Records.{nothing, held, rowAt, rowsFrom, rowsOf, rowBytes, ascending, isSound, heldOf, withRow, withoutCell, laid, refilled, Layer, layer}
 use Rattle.layer.specs.Changes.{setIn, removeIn, clearIn}
-use Rattle.sorting.specs.Groups.{setAll, withFirst, groupsOf}
+use Rattle.sorting.specs.Groups.{withFirst, groupsOf}
 use Rattle.aggregate.specs.declared.Aggregation.the-variants.{Count}
 use Rattle.aggregate.specs.Aggregate.{anyNan, countOf, aggregateOf}
 use Rattle.rollup.specs.Rollup.{parentRows, rolledOf, rollupIn}
-use Rattle.survey.specs.Survey.{headerOf, recordsAt, flagRows, valueRows, loadOf}
+use Rattle.file.specs.File.{headerOf, recordsIn, flagRows, valueRows, acceptedOf}
+use Rattle.survey.specs.Survey.{loadOf}
 use Rattle.history.specs.History.{flagLayer, Step, set, remove, clear, load, rollup, after, afterAll, left, along, lastLeft}
 
 -- the cell whose 16 bytes are all b, these bytes, and a flag record of it
@@ -52,7 +53,7 @@ sets-left = refl
 
 -- a load after them leaves what its file has, and of other cells nothing; a file that is cut short leaves all as it was
 pub load-left : map (λ (b : ℕ). lastLeft {kind = flagLayer} (cell b) (set (id 8) 3 ∷ load file [] ∷ load [] [] ∷ []) start) (8 ∷ 9 ∷ []) ≡ nothing ∷ held 5 ∷ []
-unfolding lastLeft along left after setIn loadOf headerOf flagRows valueRows recordsAt setAll fromBytesOf isSound ascending rowsOf rowsFrom rowAt heldOf withRow rawOf cellAt cellBytes rowBytes bytesOf lowDigits laid refilled flatMap word number ordered
+unfolding lastLeft along left after setIn loadOf acceptedOf headerOf flagRows valueRows recordsIn fromBytesOf isSound ascending rowsOf rowsFrom rowAt heldOf withRow rawOf cellAt cellBytes rowBytes bytesOf lowDigits laid refilled flatMap word number ordered
 load-left = refl
 
 -- a clear leaves nothing

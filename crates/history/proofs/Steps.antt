@@ -35,16 +35,18 @@ use Rattle.sorting.specs.Groups.{groupsOf}
 use Rattle.aggregate.specs.declared.Aggregation.{Aggregation}
 use Rattle.rollup.specs.Rollup.{Rolled, nanFound, rolled, parentRows, rolledOf, rolledInto, rollupIn}
 use Rattle.survey.specs.declared.Counts.{Counts}
-use Rattle.survey.specs.declared.HeaderAnswer.{HeaderAnswer}
-use Rattle.survey.specs.declared.HeaderAnswer.the-variants as header
+use Rattle.file.specs.declared.FileAnswer.{FileAnswer}
+use Rattle.file.specs.declared.FileAnswer.the-variants as accepted
+use Rattle.file.specs.File.{flagRows, valueRows, acceptedOf}
+use Rattle.file.specs.Terms.{SectionRows}
+use Rattle.file.proofs.HeaderLaws.{accepted-sized}
+use Rattle.file.proofs.AcceptedLaws.{accepted-right, section-rows}
 use Rattle.survey.specs.declared.LoadAnswer.{LoadAnswer}
 use Rattle.survey.specs.declared.LoadAnswer.the-variants as load-answer
-use Rattle.survey.specs.Survey.{mostRecords, valuePlace, counting, headerOf, flagRows, valueRows, loading, replacedBoth, loadOf}
+use Rattle.survey.specs.Survey.{counting, loading, replacedBoth, loadOf}
 use Rattle.survey.proofs.Split.{loadBy}
-use Rattle.survey.proofs.RoundTrips.{LayerRows, file-rows}
 use Rattle.history.specs.History.{Kind, flagLayer, valueLayer, widthOf, Step, set, remove, clear, load, rollup, OfBytes, loadInto, tableFor, countFor, loadedBy, afterCount, afterRemove, afterLoad, after, Left, untouched, leaves, ofCell, ifCounted, ifHeld, ifLoaded, rowsFor, rowsOfRollup, left, leftThen}
 use Rattle.history.proofs.RollupRows.{rolled-ascending, rolled-storable}
-use Rattle.survey.proofs.Limits.{room-in-records}
 
 -- a table of bytes that is a sound layer, and holds this of a cell
 pub record Shows (kind : Kind) (c : Cell) (l : Layer) (h : Held) : Type 0 where
@@ -84,33 +86,37 @@ replaced-either fs vs f v P refused filled = by-room (leb (length fs) (roomFor 2
 
 -- it is refused and changes nothing, or fills the table anew with the file's rows
 load-either : (kind : Kind) (file mine other : List ℕ) (P : LoadAnswer → List ℕ → Type 0) → ((why : Refusal) → P (load-answer.Refused why) mine)
-    → ((counts : Counts) → let rs = rowsFor kind file (headerOf file) in countFor kind counts ≡ length rs → length rs ≤ roomFor (widthOf kind) mine → P (load-answer.Loaded counts) (refilled (widthOf kind) (roomFor (widthOf kind) mine) rs mine))
+    → ((counts : Counts) → let rs = rowsFor kind file (acceptedOf file) in countFor kind counts ≡ length rs → length rs ≤ roomFor (widthOf kind) mine → P (load-answer.Loaded counts) (refilled (widthOf kind) (roomFor (widthOf kind) mine) rs mine))
     → P (loadInto kind file mine other .said) (tableFor kind (loadInto kind file mine other))
 unfolding loadOf
-load-either flagLayer file mine other P refused filled = by-header (headerOf file) filled
+load-either flagLayer file mine other P refused filled = by-file (acceptedOf file) filled
   where
-    by-header : (a : HeaderAnswer)
+    by-file : (a : FileAnswer)
         → ((counts : Counts) → let rs = rowsFor flagLayer file a in counts .flags ≡ length rs → length rs ≤ roomFor 20 mine → P (load-answer.Loaded counts) (refilled 20 (roomFor 20 mine) rs mine))
         → P (loadBy a file mine other .said) (loadBy a file mine other .flags)
-    by-header (header.Refused why) f = refused why
-    by-header (header.Sections c) f =
-        replaced-either (flagRows file c) (valueRows file c) mine other (λ a fs vs. P a fs) (refused (refusal.NoRoom room.Layer)) (λ some many. f (counting (length (flagRows file c)) (length (valueRows file c))) refl some)
-load-either valueLayer file mine other P refused filled = by-header (headerOf file) filled
+    by-file (accepted.Refused why) f = refused why
+    by-file (accepted.Has at) f =
+        replaced-either (flagRows file at) (valueRows file at) mine other (λ a fs vs. P a fs) (refused (refusal.NoRoom room.Layer)) (λ some many. f (counting (length (flagRows file at)) (length (valueRows file at))) refl some)
+load-either valueLayer file mine other P refused filled = by-file (acceptedOf file) filled
   where
-    by-header : (a : HeaderAnswer)
+    by-file : (a : FileAnswer)
         → ((counts : Counts) → let rs = rowsFor valueLayer file a in counts .values ≡ length rs → length rs ≤ roomFor 24 mine → P (load-answer.Loaded counts) (refilled 24 (roomFor 24 mine) rs mine))
         → P (loadBy a file other mine .said) (loadBy a file other mine .values)
-    by-header (header.Refused why) f = refused why
-    by-header (header.Sections c) f =
-        replaced-either (flagRows file c) (valueRows file c) other mine (λ a fs vs. P a vs) (refused (refusal.NoRoom room.Layer)) (λ some many. f (counting (length (flagRows file c)) (length (valueRows file c))) refl many)
+    by-file (accepted.Refused why) f = refused why
+    by-file (accepted.Has at) f =
+        replaced-either (flagRows file at) (valueRows file at) other mine (λ a fs vs. P a vs) (refused (refusal.NoRoom room.Layer)) (λ some many. f (counting (length (flagRows file at)) (length (valueRows file at))) refl many)
 
--- the rows of a file, as many as there may be, are rows of a layer
-rows-of-file : (kind : Kind) (file : List ℕ) (a : HeaderAnswer) → Bytes file → length (rowsFor kind file a) ≤ mostRecords → LayerRows (widthOf kind) (rowsFor kind file a)
+-- the rows of a file that is accepted are rows of a layer; one that is not has none
+rows-of-file : (kind : Kind) (file : List ℕ) (a : FileAnswer) → acceptedOf file ≡ a → Bytes file → SectionRows (widthOf kind) (rowsFor kind file a)
 unfolding flagRows valueRows ascending
-rows-of-file flagLayer file (header.Sections c) b few = file-rows 20 file 16 (c .flags) b few
-rows-of-file valueLayer file (header.Sections c) b few = file-rows 24 file (valuePlace (c .flags)) (c .values) b few
-rows-of-file flagLayer file (header.Refused why) b few = record { few = few; storable = no-rows; rises = refl }
-rows-of-file valueLayer file (header.Refused why) b few = record { few = few; storable = no-rows; rises = refl }
+rows-of-file flagLayer file (accepted.Has at) read b =
+    let right = accepted-right file at read in
+    section-rows 20 file (at .flags) b (accepted-sized file at (right .header) .few-flags) (right .flags)
+rows-of-file valueLayer file (accepted.Has at) read b =
+    let right = accepted-right file at read in
+    section-rows 24 file (at .values) b (accepted-sized file at (right .header) .few-values) (right .values)
+rows-of-file flagLayer file (accepted.Refused why) read b = record { few = omega arith; storable = no-rows; ascend = refl }
+rows-of-file valueLayer file (accepted.Refused why) read b = record { few = omega arith; storable = no-rows; ascend = refl }
 
 -- ---- the steps
 
@@ -152,15 +158,15 @@ module _ (kind : Kind) (c : Cell) (t : List ℕ) (n : ℕ) (h : Held) (was : Sho
   unfolding clearIn heldOf ascending
   clear-shows = shown kind c (clearIn w t) 0 [] nothing (refilled-holds w t (wide kind) (was .bytes) [] (roomFor w t) no-rows refl (omega arith) (omega arith)) refl
 
-  load-shows : (file other : List ℕ) → Bytes file → Shows kind c (afterLoad kind n (loadInto kind file t other)) (leftThen (ifLoaded (loadInto kind file t other .said) (leaves (heldOf c (rowsFor kind file (headerOf file))))) h)
+  load-shows : (file other : List ℕ) → Bytes file → Shows kind c (afterLoad kind n (loadInto kind file t other)) (leftThen (ifLoaded (loadInto kind file t other .said) (leaves (heldOf c (rowsFor kind file (acceptedOf file))))) h)
   load-shows file other b =
-      let rs = rowsFor kind file (headerOf file) in
+      let rs = rowsFor kind file (acceptedOf file) in
       load-either kind file t other (λ (a : LoadAnswer) (m : List ℕ). Shows kind c (layer m (loadedBy kind a n)) (leftThen (ifLoaded a (leaves (heldOf c rs))) h))
       (λ why. was)
       (λ counts size fits.
-      let rows = rows-of-file kind file (headerOf file) b (omega (arith, room-in-records w t)) in
+      let rows = rows-of-file kind file (acceptedOf file) refl b in
       subst⁻¹ (λ (i : ℕ). Shows kind c (layer (refilled w (roomFor w t) rs t) i) (heldOf c rs)) size
-      (shown kind c (refilled w (roomFor w t) rs t) (length rs) rs (heldOf c rs) (refilled-holds w t (wide kind) (was .bytes) rs (roomFor w t) (rows .storable) (rows .rises) fits (omega arith)) refl))
+      (shown kind c (refilled w (roomFor w t) rs t) (length rs) rs (heldOf c rs) (refilled-holds w t (wide kind) (was .bytes) rs (roomFor w t) (rows .storable) (rows .ascend) fits (omega arith)) refl))
 
 rollup-shows : (c : Cell) (t : List ℕ) (n : ℕ) (h : Held) → Shows valueLayer c (layer t n) h → (how : Aggregation) (fine : List ℕ) (m : ℕ) → Bytes fine
     → Shows valueLayer c (afterCount n (rollupIn how fine m t)) (leftThen (ifCounted (rollupIn how fine m t .said) (leaves (heldOf c (rowsOfRollup (rolledOf how (groupsOf (parentRows (rowsOf 24 fine m)))))))) h)

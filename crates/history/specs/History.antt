@@ -20,12 +20,13 @@ use Rattle.refusal.specs.declared.CountAnswer.the-variants as count
 use Rattle.sorting.specs.Groups.{groupsOf}
 use Rattle.aggregate.specs.declared.Aggregation.{Aggregation}
 use Rattle.rollup.specs.Rollup.{Rolled, nanFound, rolled, parentRows, rolledOf, rollupIn}
-use Rattle.survey.specs.declared.HeaderAnswer.{HeaderAnswer}
-use Rattle.survey.specs.declared.HeaderAnswer.the-variants as header
+use Rattle.file.specs.declared.FileAnswer.{FileAnswer}
+use Rattle.file.specs.declared.FileAnswer.the-variants as accepted
+use Rattle.file.specs.File.{flagRows, valueRows, acceptedOf}
 use Rattle.survey.specs.declared.LoadAnswer.{LoadAnswer}
 use Rattle.survey.specs.declared.LoadAnswer.the-variants as load-answer
 use Rattle.survey.specs.declared.Counts.{Counts}
-use Rattle.survey.specs.Survey.{Loading, headerOf, flagRows, valueRows, loadOf}
+use Rattle.survey.specs.Survey.{Loading, loadOf}
 
 -- ---- layers and the calls that change them
 
@@ -143,10 +144,10 @@ ifLoaded (load-answer.Loaded c) x = x
 ifLoaded (load-answer.Refused r) x = untouched
 
 -- the rows that a file has for this layer
-abbrev pub rowsFor : Kind → List ℕ → HeaderAnswer → List Row
-rowsFor flagLayer file (header.Sections c) = flagRows file c
-rowsFor valueLayer file (header.Sections c) = valueRows file c
-rowsFor kind file (header.Refused r) = []
+abbrev pub rowsFor : Kind → List ℕ → FileAnswer → List Row
+rowsFor flagLayer file (accepted.Has at) = flagRows file at
+rowsFor valueLayer file (accepted.Has at) = valueRows file at
+rowsFor kind file (accepted.Refused r) = []
 
 -- the rows that a rollup makes
 abbrev pub rowsOfRollup : Rolled → List Row
@@ -155,11 +156,11 @@ rowsOfRollup (rolled rs) = rs
 
 -- set leaves what was set; remove and clear nothing; load and rollup what the file or the fine layer has of the cell
 unfoldable pub left : {kind : Kind} → Cell → Step kind → Layer → Left
-unfolding fromBytesOf heldOf setIn removeIn loadOf headerOf flagRows valueRows rollupIn rowsOf parentRows groupsOf rolledOf
+unfolding fromBytesOf heldOf setIn removeIn loadOf acceptedOf flagRows valueRows rollupIn rowsOf parentRows groupsOf rolledOf
 left {kind} c (set id k) l = ifCounted (setIn (widthOf kind) (l .table) (l .count) id k .said) (ofCell c (fromBytesOf id) (held k))
 left {kind} c (remove id) l = ifHeld (removeIn (widthOf kind) (l .table) (l .count) id .said) (ofCell c (fromBytesOf id) nothing)
 left c clear l = leaves nothing
-left {kind} c (load file other) l = ifLoaded (loadInto kind file (l .table) other .said) (leaves (heldOf c (rowsFor kind file (headerOf file))))
+left {kind} c (load file other) l = ifLoaded (loadInto kind file (l .table) other .said) (leaves (heldOf c (rowsFor kind file (acceptedOf file))))
 left c (rollup how fine n) l = ifCounted (rollupIn how fine n (l .table) .said) (leaves (heldOf c (rowsOfRollup (rolledOf how (groupsOf (parentRows (rowsOf valueWidth fine n)))))))
 
 -- ---- along a history

@@ -1,3 +1,4 @@
 pub mod Theorems
 pub mod Points
 pub mod Room
+pub mod Filled

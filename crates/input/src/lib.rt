@@ -1,11 +1,10 @@
-// Reads a survey file whole from a descriptor and reports on it, for the programs `report` and `report_files`. What a read brings no contract can say;
-// what is said of the bytes that it brought is `report_text::report`'s to promise, and is promised here of some bytes.
-ghost use Rattle.input.specs.Inner.Input.{Fills};
-ghost use Rattle.input.specs.Input.{Reports};
+// Reads a survey file whole from a descriptor, for the program `rewrite` too, and reports on it, for the programs `report` and `report_files`. What a read brings
+// no contract can say; what is said of the bytes that it brought is `report_text::report`'s to promise, and is promised here of some bytes.
+ghost use Rattle.input.specs.Input.{Fills, Reports};
 use survey::WriteAnswer;
 
 // How many bytes of an input stand at the front of a buffer, if none of the reads failed.
-enum ReadAnswer {
+pub enum ReadAnswer {
     Read(usize),
     Unread,
 }
@@ -17,7 +16,7 @@ pub enum InputAnswer {
 }
 
 // Reads until the buffer is full or the input ends.
-fn read_whole(from: i32, buffer: &mut [u8]) -> ReadAnswer
+pub fn read_whole(from: i32, buffer: &mut [u8]) -> ReadAnswer
     ensures { λ r. ⌜ Fills r (now (buffer .exit)) ⌝ }
 {
     let mut done = 0;

@@ -1,13 +1,7 @@
-pub mod Limits
 pub mod Theorems
-pub mod HeaderLaws
-pub mod FileLaws
 pub mod RoundTrips
 pub mod FullRoom
-pub mod Front
 pub mod Whole
-pub mod Keeping
-pub mod Lasts
 pub mod Replaced
 pub mod OneAnswer
 pub mod Points

@@ -1,4 +1,1 @@
-pub mod Sized
 pub mod Within
-pub mod Gathered
-pub mod Room

@@ -1,14 +1,14 @@
 -- What follows of records that ascend, by their indices.
-use mathlib.Core.Path.{_≡_, refl, sym, ap, subst, _∙_}
-use mathlib.Core.Bool.{Bool, true, false}
-use mathlib.Core.List.{List}
+use mathlib.Core.Path.{_≡_, refl, sym, ap, ap₂, subst, _∙_}
+use mathlib.Core.Bool.{Bool, true, false, cond, _&&_, true≢false}
+use mathlib.Core.List.{List, [], _∷_, _++_}
 use Prim.Native.Nat.{ℕ, zero, suc, _+_, _-_, _*_, _/_, _≤_, _<_}
 use mathlib.Core.Logic.{⊎-elim}
 use native.Mathlib.Nat.{eq-or-lt-of-le, min-le-right, mul-div-le, mul-le-mul-left, mul-suc}
 use native.Mathlib.Numerals.{add-one}
 use native.Mathlib.Omega.{arith}
-use borrow.Author.Tests.{leb-true, ltb-true, ltb-false, eqb-true, ne-eqb}
-use lib.Dec.{leb, ltb}
+use borrow.Author.Tests.{leb-true, ltb-true, ltb-false, eqb-true, eq-eqb, ne-eqb}
+use lib.Dec.{leb, ltb, eqb}
 use lib.ListN.{length}
 use Rattle.refusal.specs.declared.Cell.{Cell}
 use Rattle.refusal.specs.Refusals.{rawOf}
@@ -18,10 +18,12 @@ use Rattle.cell.specs.Cell.{sameCell, lessCell}
 use Rattle.cell.specs.Bytes.{cellAt}
 use Rattle.cell.proofs.Laws.{less-transitive}
 use Rattle.general.proofs.Tests.{both}
-use Rattle.table.specs.Records.{mostCells, roomFor, rowAt, rowsFrom, rowsOf, ascending, isSound, held, nothing, heldOf}
+use Rattle.table.specs.Records.{mostCells, roomFor, rowAt, rowsFrom, rowsOf, ascending, firstFall, isSound, held, nothing, heldOf, Row}
 use Rattle.table.specs.declared.Position.{Position}
 use Rattle.table.specs.declared.Position.the-variants.{At, Before}
 use Rattle.table.specs.Inner.Places.{Stands}
+use Rattle.table.specs.Terms.{FallsAt}
+use Rattle.table.proofs.Bytes.{length-rowsFrom}
 
 -- the first 16 bytes of a record are its cell's
 pub row-cell : (w : ℕ) (l : List ℕ) (i : ℕ) → rowAt w l i .cell ≡ cellAt l (w * i)
@@ -36,6 +38,67 @@ row-kept w n l i e = ap (λ (n : ℕ). word big n l (w * i + 16)) e
 -- of which the flags are 32 bits
 pub flags-word : (l : List ℕ) (i : ℕ) → Bytes l → rowAt 20 l i .kept < 4294967296
 flags-word l i bytes = omega (arith, row-kept 20 4 l i refl, word-lt big 4 l (20 * i + 16) bytes)
+
+-- ---- the first that does not ascend
+
+-- where rows ascend, there is none
+pub no-fall : (rs : List Row) → ascending rs ≡ true → firstFall rs ≡ length rs
+unfolding ascending firstFall
+no-fall [] up = refl
+no-fall (r ∷ []) up = refl
+no-fall (r ∷ (s ∷ rs)) up =
+    let h = both (lessCell (r .cell) (s .cell)) (ascending (s ∷ rs)) up in
+    rw (h .0) (ap suc (no-fall (s ∷ rs) (h .1)))
+
+-- where they do not, it is one of them
+pub fall-within : (rs : List Row) → ascending rs ≡ false → firstFall rs < length rs
+unfolding ascending firstFall
+fall-within [] down = absurd (true≢false down)
+fall-within (r ∷ []) down = absurd (true≢false down)
+fall-within (r ∷ (s ∷ rs)) down = decide (lessCell (r .cell) (s .cell)) down (fall-within (s ∷ rs))
+  where
+    decide : (t : Bool) → (t && ascending (s ∷ rs)) ≡ false → (ascending (s ∷ rs) ≡ false → firstFall (s ∷ rs) < suc (length rs)) → cond t (suc (firstFall (s ∷ rs))) 1 < suc (suc (length rs))
+    decide true e later = let h = later e in omega arith
+    decide false e later = omega arith
+
+-- so rows ascend exactly where it is as many as they are
+pub ascending-by-fall : (rs : List Row) → ascending rs ≡ eqb (firstFall rs) (length rs)
+ascending-by-fall rs = decide (ascending rs) refl
+  where
+    decide : (t : Bool) → ascending rs ≡ t → t ≡ eqb (firstFall rs) (length rs)
+    decide true e = sym (eq-eqb (firstFall rs) (length rs) (no-fall rs e))
+    decide false e = sym (ne-eqb (firstFall rs) (length rs) (λ q. omega (arith, fall-within rs e)))
+
+-- a row below the first of others that ascend
+one-before : (r s : Row) (rs front : List Row) (last : Row) (more : List Row) → lessCell (r .cell) (s .cell) ≡ true → s ∷ rs ≡ front ++ (last ∷ more) → ascending (front ++ (last ∷ [])) ≡ true
+    → ascending (r ∷ (front ++ (last ∷ []))) ≡ true
+unfolding ascending
+one-before r s rs [] last more e rows up = let same : s ≡ last = cc in ap₂ _&&_ (ap (λ (c : Row). lessCell (r .cell) (c .cell)) (sym same) ∙ e) up
+one-before r s rs (x ∷ front) last more e rows up = let same : s ≡ x = cc in ap₂ _&&_ (ap (λ (c : Row). lessCell (r .cell) (c .cell)) (sym same) ∙ e) up
+
+-- the rows before it ascend, and it is not above the last of them
+pub first-falls : (rs : List Row) → ascending rs ≡ false → FallsAt rs (firstFall rs)
+unfolding ascending firstFall
+first-falls [] down = absurd (true≢false down)
+first-falls (r ∷ []) down = absurd (true≢false down)
+first-falls (r ∷ (s ∷ rs)) down = decide (lessCell (r .cell) (s .cell)) refl (first-falls (s ∷ rs))
+  where
+    decide : (t : Bool) → lessCell (r .cell) (s .cell) ≡ t → (ascending (s ∷ rs) ≡ false → FallsAt (s ∷ rs) (firstFall (s ∷ rs))) → FallsAt (r ∷ (s ∷ rs)) (cond t (suc (firstFall (s ∷ rs))) 1)
+    decide false e others = record { front = []; last = r; next = s; rest = rs; rows = refl; index = refl; rise = refl; falls = e }
+    decide true e others =
+        let later = others (ap (λ (t : Bool). t && ascending (s ∷ rs)) (sym e) ∙ down) in
+        record {
+          front = r ∷ later .front;
+          last = later .last;
+          next = later .next;
+          rest = later .rest;
+          rows = ap (λ (m : List Row). r ∷ m) (later .rows);
+          index = ap suc (later .index);
+          rise = one-before r s rs (later .front) (later .last) (later .next ∷ later .rest) e (later .rows) (later .rise);
+          falls = later .falls;
+        }
+
+-- ---- records by their indices
 
 module _ (w : ℕ) (l : List ℕ) where
   -- record k is below the next one
@@ -64,18 +127,30 @@ module _ (w : ℕ) (l : List ℕ) where
   unfolding rowsOf
   ascends n h = rising n 0 (λ k a b. h k (omega arith))
 
+  -- then all of them are before the first that does not
+  pub all-rise : (n : ℕ) → ((k : ℕ) → suc k < n → Rises k) → firstFall (rowsOf w l n) ≡ n
+  unfolding rowsOf
+  all-rise n h = no-fall (rowsOf w l n) (ascends n h) ∙ length-rowsFrom w l 0 n
+
   -- and only there
   pub ascended : (n : ℕ) → ascending (rowsOf w l n) ≡ true → (k : ℕ) → suc k < n → Rises k
   unfolding rowsOf
   ascended n e k h = rises n 0 e k (omega arith) (omega arith)
 
-  -- one record that is not below the next one is enough
-  pub falls : (n k : ℕ) → suc k < n → lessCell (rowAt w l k .cell) (rowAt w l (suc k) .cell) ≡ false → ascending (rowsOf w l n) ≡ false
-  falls n k h f = decide (ascending (rowsOf w l n)) refl
-    where
-      decide : (t : Bool) → ascending (rowsOf w l n) ≡ t → t ≡ false
-      decide false e = refl
-      decide true e = let r = ascended n e k h in sym r ∙ f
+  fall-from : (n i k : ℕ) → i ≤ k → suc k < i + n → ((m : ℕ) → i ≤ m → m < k → Rises m) → lessCell (rowAt w l k .cell) (rowAt w l (suc k) .cell) ≡ false → i + firstFall (rowsFrom w l i n) ≡ suc k
+  unfolding rowsFrom firstFall
+  fall-from zero i k a b up f = absurd (omega arith)
+  fall-from (suc zero) i k a b up f = absurd (omega arith)
+  fall-from (suc (suc n)) i k a b up f =
+      ⊎-elim
+      (λ (q : i ≡ k). rw (ap (λ (m : ℕ). lessCell (rowAt w l m .cell) (rowAt w l (suc m) .cell)) q ∙ f) (omega (arith, q)))
+      (λ (q : i < k). rw (up i (omega arith) q) (omega (arith, fall-from (suc n) (suc i) k (omega arith) (omega arith) (λ m c d. up m (omega arith) d) f)))
+      (eq-or-lt-of-le a)
+
+  -- the first record that is not below the next one tells which does not ascend
+  pub falls : (n k : ℕ) → suc k < n → ((m : ℕ) → m < k → Rises m) → lessCell (rowAt w l k .cell) (rowAt w l (suc k) .cell) ≡ false → firstFall (rowsOf w l n) ≡ suc k
+  unfolding rowsOf
+  falls n k h up f = omega (arith, fall-from n 0 k (omega arith) (omega arith) (λ m a b. up m b) f)
 
   -- a sound layer has room for its records
   pub sound-room : (n : ℕ) → isSound w l n ≡ true → n ≤ roomFor w l
@@ -103,8 +178,14 @@ module _ (w : ℕ) (l : List ℕ) where
       let room : n ≤ length l / w = omega (arith, min-le-right mostCells (length l / w)) in
       omega (arith, mul-le-mul-left w room, mul-div-le (length l) w)
 
+  -- and so does each of them
+  pub record-within : (n i : ℕ) → w * n ≤ length l → i < n → w * i + w ≤ length l
+  record-within n i h b =
+      let more : suc i ≤ n = omega arith in
+      omega (arith, mul-suc w i, mul-le-mul-left w more)
+
   pub row-within : (n i : ℕ) → n ≤ roomFor w l → i < n → w * i + w ≤ length l
-  row-within n i h b = omega (arith, mul-suc w i, rows-within (suc i) (omega arith))
+  row-within n i h b = record-within n i (rows-within n h) b
 
 -- ---- what is kept of a cell that was searched for
 

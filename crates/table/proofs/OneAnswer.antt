@@ -20,6 +20,9 @@ use Rattle.table.proofs as here
 pub room-for-one : OneAnswer 1 here.room_for.Kinds.ps here.room_for.Kinds.r here.room_for.Reads.Post
 room-for-one κs a z z′ e e′ p q = p ∙ sym q
 
+pub first-fall-one : OneAnswer 1 here.first_fall.Kinds.ps here.first_fall.Kinds.r here.first_fall.Reads.Post
+first-fall-one κs a z z′ e e′ p q = p ∙ sym q
+
 pub is-sound-one : OneAnswer 1 here.is_sound.Kinds.ps here.is_sound.Kinds.r here.is_sound.Reads.Post
 is-sound-one κs a z z′ e e′ p q = p ∙ sym q
 

@@ -1,15 +1,16 @@
 -- What is shown in this crate beside the contracts of src/: the theorems that docs/PROMISES.md names, in words of specs/. The law behind each is the one that its proof names.
 use mathlib.Core.Path.{_≡_}
 use mathlib.Core.List.{List}
-use mathlib.Core.Bool.{cond, true}
+use mathlib.Core.Bool.{cond, true, false}
 use Prim.Native.Nat.{ℕ, _%_, _≤_, _*_}
+use lib.Dec.{eqb}
 use lib.ListN.{length}
 use Rattle.refusal.specs.declared.Cell.{Cell}
 use Rattle.words.specs.Word.{Bytes}
 use Rattle.cell.specs.Cell.{sameCell}
 use Rattle.table.specs.Flags.{withFlag, isBlocked}
-use Rattle.table.specs.Records.{Row, rowsOf, laid, held, heldOf, withRow, nothing, withoutCell, ascending, roomFor, refilled}
-use Rattle.table.specs.Terms.{AllStorable, Holds}
+use Rattle.table.specs.Records.{Row, rowsOf, laid, held, heldOf, withRow, nothing, withoutCell, ascending, firstFall, roomFor, refilled}
+use Rattle.table.specs.Terms.{AllStorable, Holds, FallsAt}
 use Rattle.table.proofs as laws
 use Rattle.cell.specs.Bytes.{cellWidth}
 
@@ -32,6 +33,14 @@ held-with = laws.Map.held-with
 -- After a remove from ascending records, they keep of that cell nothing, and of any other what they kept before.
 pub held-without : (c d : Cell) (rs : List Row) → ascending rs ≡ true → heldOf c (withoutCell d rs) ≡ cond (sameCell d c) nothing (heldOf c rs)
 held-without = laws.Map.held-without
+
+-- Rows that do not ascend have a first one that is not above the one before it, and its index is told.
+pub first-falls : (rs : List Row) → ascending rs ≡ false → FallsAt rs (firstFall rs)
+first-falls = laws.Laws.first-falls
+
+-- Rows ascend exactly where the index that is told is as many as they are.
+pub ascending-by-fall : (rs : List Row) → ascending rs ≡ eqb (firstFall rs) (length rs)
+ascending-by-fall = laws.Laws.ascending-by-fall
 
 -- Ascending rows laid into the first n records of a table, and zeros in those of the n that are left, make a sound layer with these rows.
 pub refilled-holds :

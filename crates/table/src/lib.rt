@@ -4,7 +4,7 @@ ghost use mathlib.Core.Bool.{true};
 ghost use mathlib.Core.Path.{_≡_};
 ghost use Prim.Native.Nat.{_+_, _*_, _≤_};
 ghost use lib.ListN.{length};
-ghost use Rattle.table.specs.Records.{roomFor, rowAt, rowsOf, ascending, isSound};
+ghost use Rattle.table.specs.Records.{roomFor, rowAt, rowsOf, firstFall, isSound};
 ghost use Rattle.table.specs.Inner.Places.{Wide, Stands};
 
 pub mod flags;
@@ -43,14 +43,14 @@ pub fn room_for(table: &[u8], width: usize) -> usize
     if n < MOST_CELLS { n } else { MOST_CELLS }
 }
 
-// Whether each record's cell is below the next one's; each cell is read once.
-fn is_ascending(table: &[u8], width: usize, count: usize) -> bool
+// The index of the first record whose cell is not above that of the one before it, and `count` where there is none; each cell is read once.
+pub fn first_fall(table: &[u8], width: usize, count: usize) -> usize
     requires { ⌜ Wide width ⌝ }
-    requires { ⌜ count ≤ roomFor width (now table) ⌝ }
-    ensures { λ r. ⌜ r ≡ ascending (rowsOf width (now (table .entry)) count) ⌝ }
+    requires { ⌜ width * count ≤ length (now table) ⌝ }
+    ensures { λ r. ⌜ r ≡ firstFall (rowsOf width (now (table .entry)) count) ⌝ }
 {
     if count == 0 {
-        return true;
+        return 0;
     }
     let mut last = cell::read_at(table, 0);
     let mut i = 0;
@@ -60,10 +60,10 @@ fn is_ascending(table: &[u8], width: usize, count: usize) -> bool
             last = next;
             i += 1;
         } else {
-            return false;
+            return i + 1;
         }
     }
-    true
+    count
 }
 
 // Whether the count and the order are those of a layer.
@@ -74,7 +74,7 @@ pub fn is_sound(table: &[u8], width: usize, count: usize) -> bool
     if count > room_for(table, width) {
         return false;
     }
-    is_ascending(table, width, count)
+    first_fall(table, width, count) == count
 }
 
 // A cell's place among the records of a sound layer, by halves.

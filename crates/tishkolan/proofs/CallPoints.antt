@@ -1,4 +1,5 @@
--- Known points of what C is told, by computation: a distance, a search beyond its limit, a cell that is made and read, its label, and a parent's children.
+-- Known points of what C is told, by computation: a distance, a search beyond its limit, a cell that is made and read, its label, a parent's children, and files that
+-- are refused and written back.
 use mathlib.Core.Bool.{false}
 use mathlib.Core.List.{List, [], _∷_, _++_, flatMap}
 use mathlib.Core.Path.{refl, _≡_}
@@ -22,7 +23,11 @@ use Rattle.bech32m.specs.Text.{firstFrom}
 use Rattle.bech32m.specs.Checksum.{indexOf, valueOf, digits, numberFrom, step, sumFrom, created}
 use Rattle.bech32m.specs.Valid.{isOf}
 use Rattle.label.specs.Label.{dataOf, labelOf, unlikeFrom, mixedAt, unknownAt, bitsIn, readValues, readOf}
-use Rattle.table.specs.Records.{layer}
+use Rattle.general.specs.Changed.{changed, saying}
+use Rattle.table.specs.Records.{layer, rowAt, rowsFrom, rowsOf, rowBytes, ascending, firstFall, isSound, refilled}
+use Rattle.file.specs.File.{headerOf, recordsIn, flagRows, valueRows, acceptedOf, headerBytes, fileOf}
+use Rattle.survey.specs.Survey.{loadOf, writeOf}
+use Rattle.face.specs.Surveys.{loadingTold, ofLoading, ofWrite}
 use Rattle.search.specs.Plan.{searchOf}
 use Rattle.known.specs.Workspace.{inRooms}
 use Rattle.astar.specs.Call.{hasRooms, searchIn, asking, buffers}
@@ -93,3 +98,21 @@ pub sixth-listed : (ofCoord (parentOf (at (pos 3) (pos 3) (pos 1))) ≡ ofCoord 
     × (take 3 (drop 15 (childrenTold (at (pos 1) (pos 1) (pos 1)) (replicate 24 (pos 0)) .out)) ≡ pos 3 ∷ pos 3 ∷ pos 1 ∷ [])
 unfolding childrenTold childrenOf parentOf parityOf isLatticePoint hasChildRoom childPlaces childSteps flatMap
 sixth-listed = (refl, refl)
+
+-- a file of two flag records, of cells whose bytes are all these
+abbrev two-flags : ℕ → ℕ → List ℕ
+two-flags first second = 0 ∷ 1 ∷ 0 ∷ 2 ∷ 0 ∷ 0 ∷ 0 ∷ 0 ∷ 0 ∷ 0 ∷ 0 ∷ 16 ∷ 0 ∷ 0 ∷ 0 ∷ 56 ∷ (replicate 16 first ++ (0 ∷ 0 ∷ 0 ∷ 1 ∷ (replicate 16 second ++ (0 ∷ 0 ∷ 0 ∷ 2 ∷ []))))
+
+-- twice the same cell: 12 is told, the place of the second record, and the counts that were given; both tables stay
+pub one-cell-twice-told :
+    ofLoading 1 1 (loadOf (two-flags 7 7) (replicate 40 9) (replicate 24 9))
+    ≡ loadingTold (record { refusal = telling 12 0 noCoord; place = 36; flags = 1; values = 1 }) (replicate 40 9) (replicate 24 9)
+unfolding loadOf acceptedOf headerOf flagRows valueRows recordsIn rowsOf rowsFrom rowAt ascending firstFall rawOf cellAt word number ordered
+one-cell-twice-told = refl
+
+-- two cells, loaded and written into an output of one byte more: the very file
+pub two-cells-written-back :
+    saying ofWrite (writeOf (loadOf (two-flags 6 7) (replicate 41 9) (replicate 24 9) .flags) 2 (loadOf (two-flags 6 7) (replicate 41 9) (replicate 24 9) .values) 0 (replicate 57 9))
+    ≡ changed (record { refusal = answered; length = 56 }) (two-flags 6 7 ++ (9 ∷ []))
+unfolding loadOf acceptedOf headerOf flagRows valueRows recordsIn rowsOf rowsFrom rowAt ascending rawOf cellAt cellBytes rowBytes bytesOf lowDigits refilled writeOf isSound fileOf headerBytes flatMap word number ordered
+two-cells-written-back = refl

@@ -283,6 +283,45 @@ ValuesRollup = Call 2 here.aggregates.tishkolan_values_rollup.Kinds.ps here.aggr
 abbrev pub SurveyLoad : Type 0
 SurveyLoad = Call 3 here.surveys.tishkolan_survey_load.Kinds.ps here.surveys.tishkolan_survey_load.Kinds.r here.surveys.tishkolan_survey_load.Reads.Post
 
+-- the file that it is handed
+abbrev pub fileHanded : SurveyLoad → List ℕ
+fileHanded call = now (call .arguments .0)
+
+-- the flag table that it is handed
+abbrev pub flagsHanded : SurveyLoad → List ℕ
+flagsHanded call = now (call .arguments .1 .0)
+
+-- the value table that it is handed
+abbrev pub valuesHanded : SurveyLoad → List ℕ
+valuesHanded call = now (call .arguments .1 .1 .1 .0)
+
+-- the flag table that it leaves
+abbrev pub flagsLoaded : SurveyLoad → List ℕ
+flagsLoaded call = now (call .exit .1 .0)
+
+-- the value table that it leaves
+abbrev pub valuesLoaded : SurveyLoad → List ℕ
+valuesLoaded call = now (call .exit .1 .1 .1 .0)
+
+-- a call of `tishkolan_survey_write`
+abbrev pub SurveyWrite : Type 0
+SurveyWrite = Call 3 here.surveys.tishkolan_survey_write.Kinds.ps here.surveys.tishkolan_survey_write.Kinds.r here.surveys.tishkolan_survey_write.Reads.Post
+
+-- the output that it is lent
+abbrev pub writtenLent : SurveyWrite → List ℕ
+writtenLent call = now (call .arguments .1 .1 .1 .1 .0)
+
+-- what it leaves there
+abbrev pub writtenLeft : SurveyWrite → List ℕ
+writtenLeft call = now (call .exit .1 .1 .1 .1 .0)
+
+-- it is handed the layers that a load left
+pub record Writes (load : SurveyLoad) (write : SurveyWrite) : Type 0 where
+  pub flags : now (write .arguments .0) ≡ flagsLoaded load
+  pub flag-count : write .arguments .1 .0 ≡ load .told .flags
+  pub values : now (write .arguments .1 .1 .0) ≡ valuesLoaded load
+  pub value-count : write .arguments .1 .1 .1 .0 ≡ load .told .values
+
 -- ---- chains of calls
 
 -- a table and a count that are the layer's

@@ -23,6 +23,7 @@ pub mod Parents
 pub mod Distances
 pub mod Packing
 pub mod LabelCalls
+pub mod SurveyCalls
 pub mod Filling
 pub mod Theorems
 pub mod CallPoints

@@ -3,7 +3,7 @@
 use mathlib.Core.Path.{_≡_}
 use mathlib.Core.Logic.{_↔_, _⊎_}
 use mathlib.Core.Bool.{true}
-use mathlib.Core.List.{List, map}
+use mathlib.Core.List.{List, _++_, map}
 use Prim.Native.Nat.{ℕ, _+_, _*_, _%_, _≤_, _<_}
 use denote.Ref.{now}
 use lib.ListN.{length, take, drop}
@@ -14,13 +14,16 @@ use Rattle.cell.specs.declared.CellAnswer.the-variants as cell
 use Rattle.cell.specs.Bytes.{fromBytesOf, cellWidth}
 use Rattle.label.specs.Terms.{uppered, IsLabel}
 use Rattle.table.specs.Records.{Layer, nothing, held, heldOf, rowsOf, isSound, flagWidth, valueWidth}
+use Rattle.file.specs.declared.Sections.{Sections}
+use Rattle.file.specs.File.{sectionsOf}
+use Rattle.file.specs.Terms.{IsFile}
 use Rattle.route.specs.Accepted.{Demand3}
 use Rattle.history.specs.History.{flagLayer, valueLayer, Step, AllOfBytes, IsLayer, lastLeft}
 use Rattle.face.specs.Told.{answered}
 use Rattle.face.specs.Points.{triple}
 use Rattle.face.specs.LayerAnswers.{tellingCount, heldTold, LayerCase, setTold, removeTold}
 use Rattle.face.specs.Terms.{Nearest, CellsNearest, LimitTold, fieldsGiven, noMistake}
-use Rattle.tishkolan.proofs.Calls.{RouteVerdict, judged, judgedIn, judgedUnder, RouteChoice, sent, homing, chosenIn, chosenUnder, ClaimBytes, AcceptedRoute, Astar, searchedIn, searchedUnder, returned, AstarWithLimit, limitedIn, limitedUnder, limitGiven, limitedReturned, LatticeDistance, firstPlace, secondPlace, CellDistance, firstCell, secondCell, LatticeParent, childPlace, LatticeChildren, parentPlace, childrenLeft, CellNew, newFrame, newResolution, newPlace, newExponent, newFlags, newLent, newLeft, CellFields, fieldsBytes, Typed, Repacks, CellToBech32m, named, labelLeft, CellFromBech32m, spelled, cellLent, cellLeft, FlagsSet, FlagsGet, FlagsRemove, ValuesSet, ValuesGet, ValuesRemove, Handed, Calls}
+use Rattle.tishkolan.proofs.Calls.{RouteVerdict, judged, judgedIn, judgedUnder, RouteChoice, sent, homing, chosenIn, chosenUnder, ClaimBytes, AcceptedRoute, Astar, searchedIn, searchedUnder, returned, AstarWithLimit, limitedIn, limitedUnder, limitGiven, limitedReturned, LatticeDistance, firstPlace, secondPlace, CellDistance, firstCell, secondCell, LatticeParent, childPlace, LatticeChildren, parentPlace, childrenLeft, CellNew, newFrame, newResolution, newPlace, newExponent, newFlags, newLent, newLeft, CellFields, fieldsBytes, Typed, Repacks, CellToBech32m, named, labelLeft, CellFromBech32m, spelled, cellLent, cellLeft, FlagsSet, FlagsGet, FlagsRemove, ValuesSet, ValuesGet, ValuesRemove, SurveyLoad, fileHanded, flagsHanded, valuesHanded, flagsLoaded, valuesLoaded, SurveyWrite, writtenLent, writtenLeft, Writes, Handed, Calls}
 use Rattle.tishkolan.proofs as laws
 use Rattle.astar.specs.Call.{defaultLimit}
 
@@ -206,3 +209,33 @@ label-read-alone = laws.LabelCalls.label-read-alone
 pub label-told-exactly :
     (read : CellFromBech32m) → cellWidth ≤ length (cellLent read) → ((read .told .refusal .number ≡ 0) ⊎ (read .told .refusal .number ≡ 35)) ↔ IsLabel (spelled read)
 label-told-exactly = laws.LabelCalls.label-told-exactly
+
+-- ---- survey files
+
+-- `tishkolan_survey_load` tells refusal 12 if and only if the bytes that it is handed are the file of no rows that ascend in each section and are within the limits.
+pub load-twelve-exactly : (call : SurveyLoad) → Bytes (fileHanded call) → call .told .refusal .number ≡ 12 ↔ ((at : Sections) → IsFile (fileHanded call) at → ⊥)
+load-twelve-exactly = laws.SurveyCalls.load-twelve-exactly
+
+-- Where `tishkolan_survey_load` tells refusal 0, the bytes are a file, of as many records as it tells.
+pub loaded-is-file :
+    (call : SurveyLoad) → Bytes (fileHanded call) → call .told .refusal .number ≡ 0 → IsFile (fileHanded call) (sectionsOf (call .told .flags) (call .told .values))
+loaded-is-file = laws.SurveyCalls.loaded-is-file
+
+-- Where it tells any other, both tables are as they were handed over.
+pub load-refused :
+    (call : SurveyLoad) → (call .told .refusal .number ≡ 0 → ⊥) → (flagsLoaded call ≡ flagsHanded call) × (valuesLoaded call ≡ valuesHanded call)
+load-refused = laws.SurveyCalls.load-refused
+
+-- Equal contents are equal files: two loads that leave the same rows in both layers were handed the same bytes.
+pub equal-loads :
+    (one two : SurveyLoad) → Bytes (fileHanded one) → Bytes (fileHanded two) → one .told .refusal .number ≡ 0 → two .told .refusal .number ≡ 0
+    → rowsOf flagWidth (flagsLoaded one) (one .told .flags) ≡ rowsOf flagWidth (flagsLoaded two) (two .told .flags)
+    → rowsOf valueWidth (valuesLoaded one) (one .told .values) ≡ rowsOf valueWidth (valuesLoaded two) (two .told .values)
+    → fileHanded one ≡ fileHanded two
+equal-loads = laws.SurveyCalls.equal-loads
+
+-- What `tishkolan_survey_load` loaded, `tishkolan_survey_write` writes back as the very file, wherever there is room for it.
+pub loaded-written-back :
+    (load : SurveyLoad) (write : SurveyWrite) → Bytes (fileHanded load) → load .told .refusal .number ≡ 0 → Writes load write → length (fileHanded load) ≤ length (writtenLent write)
+    → (write .told .refusal ≡ answered) × (write .told .length ≡ length (fileHanded load)) × (writtenLeft write ≡ fileHanded load ++ drop (length (fileHanded load)) (writtenLent write))
+loaded-written-back = laws.SurveyCalls.loaded-written-back

@@ -4,7 +4,7 @@ ghost use Rattle.face.specs.Version.{versionTold};
 
 const MAJOR: u32 = 0;
 
-const MINOR: u32 = 3;
+const MINOR: u32 = 4;
 
 const PATCH: u32 = 0;
 

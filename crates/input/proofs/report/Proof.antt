@@ -1,31 +1,25 @@
 -- What was read of the input is what is reported.
-use mathlib.Core.Path.{_≡_, subst}
+use mathlib.Core.Path.{_≡_}
 use mathlib.Core.List.{List}
 use Prim.Native.Nat.{ℕ}
 use native.Mathlib.Omega.{arith}
 use borrow.Author.Needs.{needs}
 use denote.Ref.{now}
 use lib.ListN.{length, take}
-use Rattle.io.specs.Counts.{Counts}
 use Rattle.general.specs.Changed.{changed}
 use Rattle.survey.specs.declared.WriteAnswer.{WriteAnswer}
 use Rattle.report_text.specs.Summary.{reportIn}
 use Rattle.input.specs.declared.ReadAnswer.{ReadAnswer}
 use Rattle.input.specs.declared.ReadAnswer.the-variants.{Read}
 use Rattle.input.specs.declared.InputAnswer.the-variants.{Reported}
-use Rattle.input.specs.Inner.Input.{Fills}
-use Rattle.input.specs.Input.{Reports}
+use Rattle.input.specs.Input.{Fills, Reports}
+use Rattle.input.proofs.Filled.{filled}
 use Rattle.input.proofs.report.Statement.{statement}
 use Rattle.input.proofs.report.Tie as tie
 
-module _ (buffer : List ℕ) {read : ReadAnswer} {n : ℕ} (said : read ≡ Read n) (fills : Fills read buffer) where
-  -- the bytes that were read are bytes of the buffer
-  filled : Counts n buffer
-  filled = subst (λ (x : ReadAnswer). Fills x buffer) said fills
-
-  -- they are the file that is reported
-  reported : (text : List ℕ) {answer : WriteAnswer} {text′ : List ℕ} → 65536 ≡ length buffer → changed answer text′ ≡ reportIn (take n buffer) text → Reports (Reported answer) text text′
-  reported text whole told = let counts = filled in (take n buffer, (omega arith, told))
+-- the bytes that were read are the file that is reported
+reported : (buffer : List ℕ) {read : ReadAnswer} {n : ℕ} → read ≡ Read n → Fills read buffer → (text : List ℕ) {answer : WriteAnswer} {text′ : List ℕ} → 65536 ≡ length buffer → changed answer text′ ≡ reportIn (take n buffer) text → Reports (Reported answer) text text′
+reported buffer {n = n} said fills text whole told = let counts = filled buffer said fills in (take n buffer, (omega arith, told))
 
 array-share-prefix-file : tie.Need-array-share-prefix-file
 array-share-prefix-file c = let whole = c .before .before .before .before .read-whole in filled (whole .last .1 .0) (c .before .read .given .1) (whole .ensures) .0

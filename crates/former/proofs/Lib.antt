@@ -1,0 +1,9 @@
+pub mod Theorems
+pub mod Rows
+pub mod Split
+pub mod Agreement
+pub mod FullRoom
+pub mod Keeping
+pub mod Lasts
+pub mod OneAnswer
+pub mod Points
