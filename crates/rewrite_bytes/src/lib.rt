@@ -1,26 +1,9 @@
 // What the program `rewrite` prints, as bytes: of a survey file of before, whose records come in any order, the file that is accepted.
 ghost use mathlib.Core.Path.{_≡_};
 ghost use Rattle.general.specs.Changed.{changed};
-ghost use Rattle.survey.specs.Survey.{written};
-ghost use Rattle.report_text.specs.Summary.{refusedLine};
 ghost use Rattle.rewrite_bytes.specs.Rewrite.{rewriteIn};
-use refusal::Refusal;
-use refusal::Room;
 use survey::LoadAnswer;
 use survey::WriteAnswer;
-
-// The one line of a refused file, at the front of `out`, if there is room for it.
-fn write_refused(why: Refusal, out: &mut [u8]) -> WriteAnswer
-    ensures { λ r. ⌜ changed r (now (out .exit)) ≡ written (refusedLine why) (now (out .entry)) ⌝ }
-{
-    let mut text = [0u8; 96];
-    let size = report_text::put_refused(&mut text, why);
-    if size > out.len() {
-        return WriteAnswer::Refused(Refusal::NoRoom(Room::Output));
-    }
-    words::bytes::copy_front(out, &text, size);
-    WriteAnswer::Written(size)
-}
 
 // Loads a file as it was loaded before, into tables of full room, and writes what they hold to the front of `out`, or the line of the refusal, if there is room for it.
 pub fn rewrite(file: &[u8], out: &mut [u8]) -> WriteAnswer
@@ -30,7 +13,7 @@ pub fn rewrite(file: &[u8], out: &mut [u8]) -> WriteAnswer
     let mut values = [0u8; table::MOST_VALUE_BYTES];
     let answer = former::load(file, &mut flags, &mut values);
     match answer {
-        LoadAnswer::Refused(why) => write_refused(why, out),
+        LoadAnswer::Refused(why) => report_text::write_refused(why, out),
         LoadAnswer::Loaded(counts) => {
             survey::write(&flags, counts.flags, &values, counts.values, out)
         }

@@ -4,18 +4,11 @@ use mathlib.Core.List.{List}
 use Prim.Native.Nat.{ℕ}
 use native.Mathlib.Omega.{arith}
 use borrow.Author.Needs.{needs}
-use lib.ListN.{length, replicate, length-replicate}
 use Rattle.survey.specs.Survey.{written}
+use Rattle.survey.proofs.FullRoom.{zeros, length-zeros}
 use Rattle.rewrite_bytes.proofs.Rewritten.{refused-line, loaded-file}
 use Rattle.rewrite_bytes.proofs.rewrite.Statement.{statement}
 use Rattle.rewrite_bytes.proofs.rewrite.Tie as tie
-
--- the tables before the load
-abbrev zeros : ℕ → List ℕ
-zeros n = replicate n 0
-
-long : (n : ℕ) → length (zeros n) ≡ n
-long n = length-replicate {A = ℕ} n 0
 
 returns : tie.Need-returns
 returns c =
@@ -25,7 +18,7 @@ returns c =
     let args = load .before .before .before .before .before .args in
     wrote .write-refused .ensures
     ∙ ap (λ (text : List ℕ). written text (args .out .now))
-    (refused-line (args .file .now) (zeros 20480) (zeros 24576) (long 20480) (long 24576) (load .load .ensures) (answer .answer .given .0 .0) (answer .answer .given .1))
+    (refused-line (args .file .now) (zeros 20480) (zeros 24576) (length-zeros 20480) (length-zeros 24576) (load .load .ensures) (answer .answer .given .0 .0) (answer .answer .given .1))
 
 returns-2 : tie.Need-returns-2
 returns-2 c =
@@ -35,7 +28,7 @@ returns-2 c =
     let args = load .before .before .before .before .before .args in
     let known = load .before .before .before .before .shared-slice-known .given in
     wrote .write .ensures
-    ∙ loaded-file (args .file .now) (zeros 20480) (zeros 24576) (long 20480) (long 24576) (load .load .ensures) (λ i. omega (arith, known i)) (answer .answer2 .given .0 .0) (answer .answer2 .given .1) (args .out .now)
+    ∙ loaded-file (args .file .now) (zeros 20480) (zeros 24576) (length-zeros 20480) (length-zeros 24576) (load .load .ensures) (λ i. omega (arith, known i)) (answer .answer2 .given .0 .0) (answer .answer2 .given .1) (args .out .now)
 
 pub rewrite-spec : {M : Type 1} → statement M
 rewrite-spec =
