@@ -1,12 +1,12 @@
 -- What follows a load of before into tables of full room: what they hold is written as the ascending file, and a refusal is the header's.
 use mathlib.Core.Path.{_≡_, refl, sym, ap, ap₂, _∙_}
 use mathlib.Core.List.{List}
-use Prim.Native.Nat.{ℕ, _*_, _/_, _≤_}
+use Prim.Native.Nat.{ℕ, _*_}
 use native.Mathlib.Omega.{arith}
 use lib.ListN.{length}
 use Rattle.refusal.specs.declared.Refusal.{Refusal}
 use Rattle.words.specs.Word.{Bytes}
-use Rattle.table.specs.Records.{mostCells, roomFor}
+use Rattle.table.specs.Records.{mostCells}
 use Rattle.file.specs.declared.Sections.{Sections}
 use Rattle.file.specs.declared.FileAnswer.{FileAnswer}
 use Rattle.file.specs.declared.FileAnswer.the-variants as header
@@ -15,7 +15,7 @@ use Rattle.survey.specs.declared.Counts.{Counts}
 use Rattle.survey.specs.declared.LoadAnswer.{LoadAnswer}
 use Rattle.survey.specs.declared.LoadAnswer.the-variants as load
 use Rattle.survey.specs.Survey.{counting, Loading, loading, written, writeOf}
-use Rattle.survey.proofs.FullRoom.{full-room}
+use Rattle.survey.proofs.FullRoom.{flag-room, value-room}
 use Rattle.survey.proofs.RoundTrips.{write-refilled}
 use Rattle.former.specs.Former.{formerFlagRows, formerValueRows, formerLoadOf}
 use Rattle.former.proofs.Rows.{few-flags, few-values, former-flags, former-values}
@@ -62,8 +62,8 @@ module _ (l f v : List ℕ) (flag-table : length f ≡ 20 * mostCells) (value-ta
           let vs = formerValueRows l at in
           let loaded = header-accepted at read in
           let counts : c ≡ counting (length fs) (length vs) = cc in
-          let some : length fs ≤ roomFor 20 f = omega (arith, few-flags l at read, full-room 20 f (ap (λ (k : ℕ). k / 20) flag-table)) in
-          let many : length vs ≤ roomFor 24 v = omega (arith, few-values l at read, full-room 24 v (ap (λ (k : ℕ). k / 24) value-table)) in
+          let some = flag-room f v flag-table value-table fs vs (few-flags l at read) (few-values l at read) in
+          let many = value-room f v flag-table value-table fs vs (few-flags l at read) (few-values l at read) in
           ap₂ (λ (x : Loading) (k : Counts). writeOf (x .flags) (k .flags) (x .values) (k .values) out) (done ∙ full-load l at read f v flag-table value-table) counts
           ∙ write-refilled fs vs f v out (former-flags l at read bytes) (former-values l at read bytes) some many
           ∙ ap (λ (file : List ℕ). written file out) (sym (by-header l (header.Has at) read))
