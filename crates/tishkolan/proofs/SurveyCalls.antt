@@ -1,17 +1,15 @@
 -- What the two calls on survey files say of a file and of each other, over their own contracts: 12 is told exactly of bytes that are no file, 0 only of a file with the counts that are
 -- told, and what was loaded is written back as the very file.
-use mathlib.Core.Path.{_≡_, refl, sym, ap, ap₂, subst, _∙_}
+use mathlib.Core.Path.{_≡_, refl, sym, ap, ap₂, _∙_}
 use mathlib.Core.List.{List, _++_}
 use mathlib.Core.Logic.{_↔_}
 use Prim.Native.Nat.{ℕ, _≤_}
 use native.Mathlib.Omega.{arith}
 use denote.Ref.{now}
-use lib.ListN.{length, take, drop}
-use lib.Seq.{take-at}
+use lib.ListN.{length, drop}
 use Rattle.general.specs.Changed.{Changed, changed, saying}
 use Rattle.refusal.specs.declared.Refusal.{Refusal}
-use Rattle.refusal.specs.declared.Refusal.the-variants.{BadFile, NoRoom}
-use Rattle.refusal.specs.declared.Room.the-variants.{Layer}
+use Rattle.refusal.specs.declared.Refusal.the-variants.{BadFile}
 use Rattle.refusal.specs.Refusals.{numberOf}
 use Rattle.refusal.proofs.Numbers.{refused-number}
 use Rattle.words.specs.Word.{Bytes}
@@ -19,17 +17,16 @@ use Rattle.table.specs.Records.{rowsOf, flagWidth, valueWidth}
 use Rattle.file.specs.declared.Sections.{Sections}
 use Rattle.file.specs.declared.FileAnswer.{FileAnswer}
 use Rattle.file.specs.declared.FileAnswer.the-variants as file
-use Rattle.file.specs.File.{sectionsOf, acceptedOf, badFile, fileOf}
+use Rattle.file.specs.File.{sectionsOf, acceptedOf, fileOf}
 use Rattle.file.specs.Terms.{IsFile}
 use Rattle.file.proofs.AcceptedLaws.{accepted-is-file, refused-is-no-file}
-use Rattle.survey.specs.declared.Counts.{Counts}
 use Rattle.survey.specs.declared.LoadAnswer.{LoadAnswer}
 use Rattle.survey.specs.declared.LoadAnswer.the-variants as load
 use Rattle.survey.specs.declared.WriteAnswer.the-variants.{Written}
 use Rattle.survey.specs.Survey.{counting, Loading, loadOf, writeOf}
 use Rattle.survey.proofs.RoundTrips as round
 use Rattle.face.specs.declared.LengthTold.{LengthTold}
-use Rattle.face.specs.Surveys.{LoadingTold, loadingTold, ofLoad, ofLoading, ofWrite}
+use Rattle.face.specs.Surveys.{LoadingTold, ofLoad, ofWrite}
 use Rattle.face.specs.Told.{answered}
 use Rattle.tishkolan.proofs.Calls.{SurveyLoad, fileHanded, flagsHanded, valuesHanded, flagsLoaded, valuesLoaded, SurveyWrite, writtenLent, writtenLeft, Writes}
 
