@@ -67,3 +67,16 @@ pub room-enough :
     (κs : Lfts 2) (a : Dens κs rewrite-kinds.ps) (z : WriteAnswer) (e : AtExit (endedOf 2 rewrite-kinds.ps rewrite-kinds.r) κs)
     (met : rewrite.Post κs a z e) → endPlace mostRecords mostRecords ≤ length (now (a .1 .0)) → z ≡ Written (length (rewriteOf (now (a .0))))
 room-enough = laws.Room.room-enough
+
+-- Where the call answers and the header is right, a load of the bytes that it left at the front of the output is the load of before of the file that it was handed.
+pub rewritten-loads :
+    (κs : Lfts 2) (a : Dens κs rewrite-kinds.ps) (z : WriteAnswer) (e : AtExit (endedOf 2 rewrite-kinds.ps rewrite-kinds.r) κs)
+    (met : rewrite.Post κs a z e) (n : ℕ) → z ≡ Written n → (at : Sections) → Bytes (now (a .0)) → headerOf (now (a .0)) ≡ Has at → (f v : List ℕ)
+    → loadOf (take n (now (e .1 .0))) f v ≡ formerLoadOf (now (a .0)) f v
+rewritten-loads = laws.Room.rewritten-loads
+
+-- Where it answers and the file is accepted, these bytes are the file.
+pub rewritten-same :
+    (κs : Lfts 2) (a : Dens κs rewrite-kinds.ps) (z : WriteAnswer) (e : AtExit (endedOf 2 rewrite-kinds.ps rewrite-kinds.r) κs)
+    (met : rewrite.Post κs a z e) (n : ℕ) → z ≡ Written n → (at : Sections) → Bytes (now (a .0)) → acceptedOf (now (a .0)) ≡ Has at → take n (now (e .1 .0)) ≡ now (a .0)
+rewritten-same = laws.Room.rewritten-same
