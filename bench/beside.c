@@ -1,4 +1,5 @@
-/* One search, so many times, for bench/beside: MAP ROUNDS. It prints the refusal's number and a sum over the answers. */
+/* One search, or the parents of 4,096 points or cells, so many times, for bench/beside: WHAT ROUNDS. It prints the last refusal's number and a sum over
+ * the answers. */
 #include <stdio.h>
 #include <stdlib.h>
 #include <string.h>
@@ -43,11 +44,51 @@ static void wall(int x, int reach)
                     block(x, y, z);
 }
 
+enum { POINTS = 4096 };
+
+/* A number of 30 bits and a sign, with the parity asked for. */
+static int32_t some(uint64_t *state, uint32_t parity)
+{
+    *state = *state * 6364136223846793005u + 1442695040888963407u;
+    return (int32_t)(((*state >> 33) & ~1u) | parity) - (1 << 30);
+}
+
+/* Points at random, every second one odd: their parents, or those of their cells. */
+static int parents(const char *what, long rounds)
+{
+    static int32_t points[POINTS][3];
+    static uint8_t cells[POINTS][CELL];
+    const bool of_cells = strcmp(what, "cell_parent") == 0;
+    uint64_t state = 1, sum = 0;
+    unsigned number = 0;
+
+    for (int i = 0; i < POINTS; i++) {
+        for (int axis = 0; axis < 3; axis++)
+            points[i][axis] = some(&state, i & 1);
+        at(points[i][0], points[i][1], points[i][2], cells[i]);
+    }
+    for (long round = 0; round < rounds; round++)
+        for (int i = 0; i < POINTS; i++)
+            if (of_cells) {
+                uint8_t out[CELL] = {0};
+                number = tishkolan_cell_parent(cells[i], CELL, out, CELL).number;
+                sum += out[3] + 256 * out[7] + 65536 * out[11];
+            } else {
+                const tishkolan_coord_answer parent = tishkolan_lattice_parent(points[i][0], points[i][1], points[i][2]);
+                number = parent.refusal.number;
+                sum += (uint64_t)parent.x + 3 * (uint64_t)parent.y + 7 * (uint64_t)parent.z;
+            }
+    printf("%s %u %llu\n", what, number, (unsigned long long)sum);
+    return 0;
+}
+
 int main(int arguments, char **argument)
 {
     if (arguments != 3)
         return 2;
     const char *map = argument[1];
+    if (strstr(map, "parent"))
+        return parents(map, atol(argument[2]));
     uint8_t start[CELL], goal[CELL];
     size_t rooms = 30000;
     uint64_t limit = 100000;

@@ -48,8 +48,8 @@ extern "C" {
 
 #define TISHKOLAN_VERSION_MAJOR 0
 #define TISHKOLAN_VERSION_MINOR 4
-#define TISHKOLAN_VERSION_PATCH 0
-#define TISHKOLAN_VERSION "0.4.0"
+#define TISHKOLAN_VERSION_PATCH 1
+#define TISHKOLAN_VERSION "0.4.1"
 #define TISHKOLAN_VERSION_NUMBER \
     (TISHKOLAN_VERSION_MAJOR * 1000000 + TISHKOLAN_VERSION_MINOR * 1000 + TISHKOLAN_VERSION_PATCH)
 
@@ -61,7 +61,7 @@ uint32_t tishkolan_version(void);
 
 /*     if (tishkolan_version() != TISHKOLAN_VERSION_NUMBER)
  *         return 1;
- *     puts(TISHKOLAN_VERSION); // 0.4.0 */
+ *     puts(TISHKOLAN_VERSION); // 0.4.1 */
 
 /* ---- what a call says */
 
@@ -244,9 +244,9 @@ tishkolan_refusal tishkolan_lattice_children(int32_t x, int32_t y, int32_t z,
                                              int32_t *out, size_t out_length);
 
 /* The parent, one resolution coarser: the one point that has this one among its 8 children. Each
- * coordinate is halved, rounded down; of an even point, the half that is even alone or odd alone among
- * the three is lowered by 1; of an odd point, the halves of y and z that differ in parity from the half
- * of x are raised by 1: (4, 2, 2) has (1, 1, 1), (-3, 1, -1) has (-2, 0, 0). INVALID_PARITY. */
+ * coordinate is halved, rounded down; of an even point, 1 is taken off the half whose parity differs from
+ * the other two, if there is one; of an odd point, the halves of y and z that differ in parity from the
+ * half of x are raised by 1: (4, 2, 2) has (1, 1, 1), (-3, 1, -1) has (-2, 0, 0). INVALID_PARITY. */
 tishkolan_coord_answer tishkolan_lattice_parent(int32_t x, int32_t y, int32_t z);
 
 /* The lattice point nearest to a physical point, given by the bits of its coordinates,
@@ -344,7 +344,7 @@ tishkolan_refusal tishkolan_cell_parent(const uint8_t *cell, size_t cell_length,
 /* The ancestor at a resolution: NO_PARENT where that is finer than the cell's; the cell
  * itself, unchanged, at its own; else INVALID_PARITY, or the parent of the parent, as
  * often as it takes; NO_ROOM 3.
- * Time and stack: so much for each resolution in between; from 255 to 0 50,000 bytes of stack. */
+ * Time and stack: so much for each resolution in between; from 255 to 0 21,000 bytes of stack. */
 tishkolan_refusal tishkolan_cell_ancestor(const uint8_t *cell, size_t cell_length,
                                           uint8_t resolution,
                                           uint8_t *out, size_t out_length);

@@ -122,14 +122,21 @@ static void lattice_children(void)
 
 static void lattice_parent(void)
 {
-    tishkolan_coord_answer parent = tishkolan_lattice_parent(4, 2, 2);
-    CHECK(answered(parent.refusal) && parent.x == 1 && parent.y == 1 && parent.z == 1);
-    parent = tishkolan_lattice_parent(-2, 0, 0);
-    CHECK(answered(parent.refusal) && parent.x == -2 && parent.y == 0 && parent.z == 0);
-    parent = tishkolan_lattice_parent(-3, 1, -1);
-    CHECK(answered(parent.refusal) && parent.x == -2 && parent.y == 0 && parent.z == 0);
+    /* A point and its parent; the last two are odd. */
+    static const int32_t known[][6] = {
+        {2, 2, 2, 1, 1, 1}, {2, 0, 0, 0, 0, 0}, {2, 2, 0, 1, 1, -1}, {0, 2, 2, -1, 1, 1}, {-2, 0, 0, -2, 0, 0}, {4, 2, 2, 1, 1, 1},
+        {0, 2, 0, 0, 0, 0}, {2, 0, 2, 1, -1, 1}, {-2, -2, 0, -1, -1, -1},
+        {2147483646, 0, 0, 1073741822, 0, 0},
+        {2147483646, 2147483646, INT32_MIN, 1073741823, 1073741823, -1073741825},
+        {INT32_MIN, INT32_MIN, INT32_MIN, -1073741824, -1073741824, -1073741824},
+        {-3, 1, -1, -2, 0, 0}, {1, 1, 3, 0, 0, 2}};
+    for (size_t i = 0; i < sizeof known / sizeof *known; i++) {
+        const int32_t *point = known[i];
+        const tishkolan_coord_answer parent = tishkolan_lattice_parent(point[0], point[1], point[2]);
+        CHECK(answered(parent.refusal) && parent.x == point[3] && parent.y == point[4] && parent.z == point[5]);
+    }
 
-    parent = tishkolan_lattice_parent(0, 1, 0);
+    const tishkolan_coord_answer parent = tishkolan_lattice_parent(0, 1, 0);
     CHECK(mixed(parent.refusal, 0, 1, 0) && parent.x == 0 && parent.y == 0 && parent.z == 0);
 }
 

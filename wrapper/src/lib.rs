@@ -56,7 +56,7 @@ pub use survey::{load_survey, survey_bytes, write_survey};
 /// The version of the archive that is linked: 1,000,000 times its major number, 1,000 times its minor one, and its patch.
 ///
 /// ```
-/// assert_eq!(tishkolan::version(), 4_000); // 0.4.0
+/// assert_eq!(tishkolan::version(), 4_001); // 0.4.1
 /// ```
 pub fn version() -> u32 {
     face::tishkolan_version()

@@ -11,7 +11,7 @@ minor = 4
 
 -- no other calls and structs
 abbrev pub patch : ℕ
-patch = 0
+patch = 1
 
 -- "major.minor.patch" as one number, with three digits for each of the last two
 abbrev pub versionTold : ℕ

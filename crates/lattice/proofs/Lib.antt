@@ -11,4 +11,5 @@ pub mod Spread
 pub mod Points
 pub mod OneAnswer
 pub mod OneParent
+pub mod OddCount
 pub mod Split

@@ -16,7 +16,7 @@ use Rattle.lattice.specs.declared.Parity.the-variants.{Even, Odd}
 use Rattle.lattice.specs.declared.ParityAnswer.{ParityAnswer}
 use Rattle.lattice.specs.declared.ParityAnswer.the-variants as parity
 use Rattle.lattice.specs.declared.CoordAnswer.the-variants as coord
-use Rattle.lattice.specs.Lattice.{at, origin, isOdd, isLatticePoint, parityOf, moved, neighborSteps, doubled, childSteps, half, lowered, raised, alone, halves, parentOf, apart, manhattan}
+use Rattle.lattice.specs.Lattice.{at, origin, isOdd, isLatticePoint, parityOf, moved, neighborSteps, doubled, childSteps, half, raised, alone, differingAxis, takeOneOff, halves, parentOf, apart, manhattan}
 use Rattle.lattice.proofs.Split.{parentBy}
 use Rattle.lattice.proofs.SignsLaws.{either, either-false, agree-turned, odd-sum, odd-double, half-double, apart-even, odd-halfway}
 use Rattle.lattice.specs.Middle.{middle}
@@ -147,7 +147,11 @@ there-and-back c s = λ i. at (sym (+ℤ-negℤ-cancel (c .x) (s .x)) i) (sym (+
 
 -- ---- the parent
 
--- the parent of a point of this parity, by its halves and which of them are odd
+-- one less where the test holds
+abbrev pub lowered : Bool → ℤ → ℤ
+lowered b z = cond b (z +ℤ negsuc 0) z
+
+-- the parent of a point of this parity, by its halves and which of them are odd, coordinate by coordinate
 abbrev pub parent-from : Parity → Bool → Bool → Bool → Coord → Coord
 parent-from Even a b d q = at (lowered (alone a b d) (q .x)) (lowered (alone b a d) (q .y)) (lowered (alone d a b) (q .z))
 parent-from Odd a b d q = at (q .x) (raised (not (Bool·beq a b)) (q .y)) (raised (not (Bool·beq a d)) (q .z))
@@ -155,8 +159,19 @@ parent-from Odd a b d q = at (q .x) (raised (not (Bool·beq a b)) (q .y)) (raise
 abbrev pub parent-of-halves : Parity → Coord → Coord
 parent-of-halves p q = parent-from p (isOdd (q .x)) (isOdd (q .y)) (isOdd (q .z)) q
 
-parent-at : (p : Parity) (c : Coord) → parentBy (parity.Is p) c ≡ coord.At (parent-of-halves p (halves c))
-parent-at Even c = refl
+-- one taken off the axis that differs is, coordinate by coordinate, one less where the parity stands alone: what `evenParent` was before it was said by its axis
+pub even-by-coordinates : (a b d : Bool) (q : Coord) → takeOneOff (differingAxis a b d) q ≡ parent-from Even a b d q
+even-by-coordinates true true true q = refl
+even-by-coordinates true true false q = refl
+even-by-coordinates true false true q = refl
+even-by-coordinates true false false q = refl
+even-by-coordinates false true true q = refl
+even-by-coordinates false true false q = refl
+even-by-coordinates false false true q = refl
+even-by-coordinates false false false q = refl
+
+pub parent-at : (p : Parity) (c : Coord) → parentBy (parity.Is p) c ≡ coord.At (parent-of-halves p (halves c))
+parent-at Even c = ap coord.At (even-by-coordinates (isOdd (half (c .x))) (isOdd (half (c .y))) (isOdd (half (c .z))) (halves c))
 parent-at Odd c = refl
 
 parent-by-odds : (p : Parity) (a b d : Bool) (q : Coord) → Odds q a b d → parent-of-halves p q ≡ parent-from p a b d q

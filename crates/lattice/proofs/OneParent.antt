@@ -20,11 +20,11 @@ use Rattle.lattice.specs.declared.ParityAnswer.{ParityAnswer}
 use Rattle.lattice.specs.declared.ParityAnswer.the-variants as parity
 use Rattle.lattice.specs.declared.CoordAnswer.the-variants as coord
 use Rattle.lattice.specs.declared.Children.{Children}
-use Rattle.lattice.specs.Lattice.{at, origin, isOdd, isLatticePoint, parityOf, moved, doubled, childSteps, childPlaces, hasChildRoom, childrenOf, half, halves, lowered, raised, alone, parentOf}
+use Rattle.lattice.specs.Lattice.{at, origin, isOdd, isLatticePoint, parityOf, moved, doubled, childSteps, childPlaces, hasChildRoom, childrenOf, half, halves, raised, alone, parentOf}
 use Rattle.lattice.proofs.Split.{childrenIn, childrenBy, parentBy}
 use Rattle.lattice.proofs.SignsLaws.{sub-cases}
 use Rattle.general.proofs.Lists.{has, placed}
-use Rattle.lattice.proofs.Odds.{Odds, oddness, parity-odds, parent-of-halves, at-path}
+use Rattle.lattice.proofs.Odds.{Odds, oddness, parity-odds, lowered, parent-of-halves, parent-at, at-path}
 use Rattle.lattice.proofs.get_parent.Kinds as get-parent-kinds
 use Rattle.lattice.proofs.get_parent.Reads as get-parent
 use Rattle.lattice.proofs.get_children.Kinds as get-children-kinds
@@ -132,8 +132,7 @@ parent-child c p e = by-parity (parityOf c) refl e
 
     by-parity : (a : ParityAnswer) → parityOf c ≡ a → parentBy a c ≡ coord.At p → List·Memᴰ c (childPlaces p)
     by-parity (parity.Refused r) q f = absurd (let z : _≡_ {A = ℕ} 0 1 = cc in omega arith)
-    by-parity (parity.Is Even) q f = known (child-by Even c q) f
-    by-parity (parity.Is Odd) q f = known (child-by Odd c q) f
+    by-parity (parity.Is t) q f = known (child-by t c q) (sym (parent-at t c) ∙ f)
 
 -- every lattice point has exactly one parent: the one that `parentOf` tells
 pub one-parent : (c : Coord) → isLatticePoint c ≡ true → (p : Coord) × OnlyParent c p
@@ -144,8 +143,8 @@ one-parent c e = go (isOdd (c .x)) (point-parity c e)
     from p f = (p, record { told = f; point = parent-is-point c p f; child = parent-child c p f; only = λ q g m. at-path q p (sym (child-parent q c g m) ∙ f) })
 
     go : (t : Bool) → parityOf c ≡ parity.Is (cond t Odd Even) → (p : Coord) × OnlyParent c p
-    go true f = from (parent-of-halves Odd (halves c)) (ap (λ (a : ParityAnswer). parentBy a c) f)
-    go false f = from (parent-of-halves Even (halves c)) (ap (λ (a : ParityAnswer). parentBy a c) f)
+    go true f = from (parent-of-halves Odd (halves c)) (ap (λ (a : ParityAnswer). parentBy a c) f ∙ parent-at Odd c)
+    go false f = from (parent-of-halves Even (halves c)) (ap (λ (a : ParityAnswer). parentBy a c) f ∙ parent-at Even c)
 
 -- ---- the calls
 

@@ -11,11 +11,12 @@ use Rattle.lattice.proofs.get_children.Kinds as get-children-kinds
 use Rattle.lattice.proofs.get_children.Reads as get-children
 use Rattle.lattice.proofs.get_parent.Kinds as get-parent-kinds
 use Rattle.lattice.proofs.get_parent.Reads as get-parent
-use Rattle.lattice.specs.Lattice.{neighborPlaces, isLatticePoint, childPlaces, parentOf, parityOf, manhattan}
+use Rattle.lattice.specs.Lattice.{neighborPlaces, isLatticePoint, childPlaces, evenParent, parentOf, parityOf, manhattan}
 use Rattle.lattice.specs.Middle.{middle}
-use Rattle.lattice.specs.Terms.{OnlyParent}
+use Rattle.lattice.specs.Terms.{OnlyParent, dividedByTwo, countedParent}
 use Rattle.lattice.specs.declared.CoordAnswer.the-variants as coord
 use Rattle.lattice.specs.declared.Parity.{Parity}
+use Rattle.lattice.specs.declared.Parity.the-variants.{Even}
 use Rattle.lattice.specs.declared.ParityAnswer.the-variants as parity
 use Rattle.lattice.proofs as laws
 
@@ -59,3 +60,14 @@ pub told-among-children :
     (f : AtExit (endedOf 0 get-children-kinds.ps get-children-kinds.r) κs) → get-parent.Post κs a z e → get-children.Post κs b y f
     → z ≡ coord.At (b .0) → y .outcome ≡ Answered → List·Memᴰ (a .0) (y .coords)
 told-among-children = laws.OneParent.told-among-children
+
+-- The match on the count of odd halves, lines 231 to 245 of oracle/octaindex3d/lattice.rs, gives the same point as the axis whose parity differs, for every three halves.
+pub count-of-odd-halves : (q : Coord) → countedParent q ≡ evenParent q
+count-of-odd-halves = laws.OddCount.count-of-odd-halves
+
+-- So what `get_parent` tells of an even point is what the arm `Parity::Even` of lattice.rs, lines 226 to 246, makes of it: said over the call's own contract.
+pub told-by-odd-count :
+    (κs : Lfts 0) (a : Dens κs get-parent-kinds.ps) (z : resT get-parent-kinds.r κs .Denot)
+    (e : AtExit (endedOf 0 get-parent-kinds.ps get-parent-kinds.r) κs)
+    → get-parent.Post κs a z e → parityOf (a .0) ≡ parity.Is Even → z ≡ coord.At (countedParent (dividedByTwo (a .0)))
+told-by-odd-count = laws.OddCount.told-by-odd-count

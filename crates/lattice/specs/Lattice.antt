@@ -15,6 +15,8 @@ use Rattle.refusal.specs.declared.Refusal.the-variants.{InvalidParity, CoordOve
 use Rattle.refusal.specs.declared.Outcome.the-variants as outcome
 use Rattle.lattice.specs.declared.Parity.{Parity}
 use Rattle.lattice.specs.declared.Parity.the-variants.{Even, Odd}
+use Rattle.lattice.specs.declared.Axis.{Axis}
+use Rattle.lattice.specs.declared.Axis.the-variants.{X, Y, Z, Neither}
 use Rattle.lattice.specs.declared.ParityAnswer.{ParityAnswer}
 use Rattle.lattice.specs.declared.ParityAnswer.the-variants as parity
 use Rattle.lattice.specs.declared.CoordAnswer.{CoordAnswer}
@@ -159,10 +161,6 @@ childrenOf c = spread noChildren c (hasChildRoom c) (record { outcome = outcome.
 abbrev pub half : ℤ → ℤ
 half z = shrZ z 2
 
--- one less where the test holds
-abbrev pub lowered : Bool → ℤ → ℤ
-lowered b z = cond b (z +ℤ negsuc 0) z
-
 -- one more where the test holds
 abbrev pub raised : Bool → ℤ → ℤ
 raised b z = cond b (z +ℤ pos 1) z
@@ -171,13 +169,20 @@ raised b z = cond b (z +ℤ pos 1) z
 abbrev pub alone : Bool → Bool → Bool → Bool
 alone a b d = not (Bool·beq a b) && Bool·beq b d
 
--- of an even point: each coordinate halved, and the one whose half has another parity than the other two halves lowered by one
+-- the axis whose parity differs from the other two, by the parities of x, y and z
+abbrev pub differingAxis : Bool → Bool → Bool → Axis
+differingAxis a b d = cond (alone a b d) X (cond (alone b a d) Y (cond (alone d a b) Z Neither))
+
+-- one taken off that axis; the place itself where there is none
+abbrev pub takeOneOff : Axis → Coord → Coord
+takeOneOff X c = at (c .x -ℤ pos 1) (c .y) (c .z)
+takeOneOff Y c = at (c .x) (c .y -ℤ pos 1) (c .z)
+takeOneOff Z c = at (c .x) (c .y) (c .z -ℤ pos 1)
+takeOneOff Neither c = c
+
+-- of an even point: each coordinate halved, and one taken off the axis whose parity differs from the other two; if none differs the halves are kept
 abbrev pub evenParent : Coord → Coord
-evenParent q =
-    let a = isOdd (q .x) in
-    let b = isOdd (q .y) in
-    let d = isOdd (q .z) in
-    at (lowered (alone a b d) (q .x)) (lowered (alone b a d) (q .y)) (lowered (alone d a b) (q .z))
+evenParent q = takeOneOff (differingAxis (isOdd (q .x)) (isOdd (q .y)) (isOdd (q .z))) q
 
 -- of an odd point: each halved, and y and z raised by one where their half has another parity than that of x
 abbrev pub oddParent : Coord → Coord

@@ -7,7 +7,7 @@ ghost use mir.Syntax.{w32};
 ghost use mir.Val.{SFits};
 ghost use Rattle.lattice.specs.Lattice.{isOdd, isLatticePoint, parityOf, oppositeOf, Fitting, at, moved, doubled, within, hasNeighborRoom};
 ghost use Rattle.lattice.specs.Lattice.{neighborPlaces, noNeighbors, neighborsOf, hasChildRoom, childPlaces, noChildren, childrenOf, half};
-ghost use Rattle.lattice.specs.Lattice.{halves, lowered, raised, alone, evenParent, oddParent, parentOf, apart, manhattan, manhattanOf};
+ghost use Rattle.lattice.specs.Lattice.{halves, raised, differingAxis, takeOneOff, evenParent, oddParent, parentOf, apart, manhattan, manhattanOf};
 use refusal::Coord;
 use refusal::Outcome;
 use refusal::Refusal;
@@ -295,33 +295,62 @@ fn halves(c: Coord) -> Coord
     }
 }
 
-// One less where the parity of x stands alone against those of y and z.
-fn lowered_alone(x: i32, y: i32, z: i32) -> i32
-    requires { ⌜ SFits w32 (lowered true x) ⌝ }
-    ensures { λ r. ⌜ r ≡ lowered (alone (isOdd x) (isOdd y) (isOdd z)) x ⌝ }
-{
-    let a = is_odd(x);
-    let b = is_odd(y);
-    let d = is_odd(z);
-    if a == b {
-        return x;
-    }
-    if b == d {
-        return x - 1;
-    }
-    x
+// An axis, or none of the three.
+enum Axis {
+    X,
+    Y,
+    Z,
+    Neither,
 }
 
-// From an even point's halves: one that stands alone in its parity came by a step along its axis, and is one too many.
-fn even_parent(q: Coord) -> Coord
-    requires { ⌜ hasNeighborRoom q ≡ true ⌝ }
-    ensures { λ r. ⌜ r ≡ evenParent q ⌝ }
+// The axis whose parity differs from the other two.
+fn differing_axis(c: Coord) -> Axis
+    ensures { λ r. ⌜ r ≡ differingAxis (isOdd (c .x)) (isOdd (c .y)) (isOdd (c .z)) ⌝ }
+{
+    let x = is_odd(c.x);
+    let y = is_odd(c.y);
+    let z = is_odd(c.z);
+    if x == y {
+        if y == z {
+            return Axis::Neither;
+        }
+        return Axis::Z;
+    }
+    if x == z {
+        return Axis::Y;
+    }
+    Axis::X
+}
+
+// One less on that axis; the place itself where there is none. A match for each coordinate makes no jump, as one match over the four cases would.
+fn take_one_off(axis: Axis, c: Coord) -> Coord
+    requires { ⌜ hasNeighborRoom c ≡ true ⌝ }
+    ensures { λ r. ⌜ r ≡ takeOneOff axis c ⌝ }
 {
     Coord {
-        x: lowered_alone(q.x, q.y, q.z),
-        y: lowered_alone(q.y, q.x, q.z),
-        z: lowered_alone(q.z, q.x, q.y),
+        x: match axis {
+            Axis::X => c.x - 1,
+            _ => c.x,
+        },
+        y: match axis {
+            Axis::Y => c.y - 1,
+            _ => c.y,
+        },
+        z: match axis {
+            Axis::Z => c.z - 1,
+            _ => c.z,
+        },
     }
+}
+
+// Of an even point: halve, find the axis whose parity differs from the other two, take one off it; if none differs keep the halves. For an even child is
+// twice its parent, or a step of two along one axis from there, and a parent's parities agree: the axis that differs is that of the step.
+fn even_parent(c: Coord) -> Coord
+    ensures { λ r. ⌜ r ≡ evenParent (halves c) ⌝ }
+{
+    let halved = halves(c);
+    let axis = differing_axis(halved);
+    take_one_off(axis, halved)
 }
 
 // One more where the parity of y is not that of x.
@@ -337,15 +366,16 @@ fn raised_to(x: i32, y: i32) -> i32
     y + 1
 }
 
-// From an odd point's halves: x is the parent's, and y and z follow its parity.
-fn odd_parent(q: Coord) -> Coord
-    requires { ⌜ hasNeighborRoom q ≡ true ⌝ }
-    ensures { λ r. ⌜ r ≡ oddParent q ⌝ }
+// Of an odd point: halve, and add one to y and to z where their parity differs from that of x. The rule for even points would be wrong here: of (-3,1,-1),
+// halved to (-2,0,-1), it would make (-2,0,-2), and the parent is (-2,0,0).
+fn odd_parent(c: Coord) -> Coord
+    ensures { λ r. ⌜ r ≡ oddParent (halves c) ⌝ }
 {
+    let halved = halves(c);
     Coord {
-        x: q.x,
-        y: raised_to(q.x, q.y),
-        z: raised_to(q.x, q.z),
+        x: halved.x,
+        y: raised_to(halved.x, halved.y),
+        z: raised_to(halved.x, halved.z),
     }
 }
 
@@ -354,12 +384,11 @@ pub fn get_parent(c: Coord) -> CoordAnswer
     ensures { λ r. ⌜ r ≡ parentOf c ⌝ }
 {
     let parity = parity_of(c);
-    let q = halves(c);
     match parity {
         ParityAnswer::Refused(r) => CoordAnswer::Refused(r),
         ParityAnswer::Is(p) => match p {
-            Parity::Even => CoordAnswer::At(even_parent(q)),
-            Parity::Odd => CoordAnswer::At(odd_parent(q)),
+            Parity::Even => CoordAnswer::At(even_parent(c)),
+            Parity::Odd => CoordAnswer::At(odd_parent(c)),
         },
     }
 }

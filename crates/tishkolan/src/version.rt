@@ -6,7 +6,7 @@ const MAJOR: u32 = 0;
 
 const MINOR: u32 = 4;
 
-const PATCH: u32 = 0;
+const PATCH: u32 = 1;
 
 // The version "major.minor.patch" as one number, with three digits for each of the last two.
 #[no_mangle]

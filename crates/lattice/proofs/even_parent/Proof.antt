@@ -1,43 +1,18 @@
--- There is room to lower each coordinate by one, as for the neighbour (-1, -1, -1).
-use mathlib.Core.Path.{sym, subst, _∙_, ap}
-use lib.ListN.{getD}
-use Rattle.refusal.specs.declared.Coord.{Coord}
-use Rattle.lattice.specs.Lattice.{at, origin, moved, Fitting, neighborSteps, evenParent}
-use Rattle.lattice.proofs.Fields.{TypeTold, kept, read, put}
-use Rattle.lattice.proofs.Room.{near}
+-- The halves have room for one less.
+use borrow.Author.Needs.{needs}
+use mathlib.Core.Path.{_∙_, ap}
+use Rattle.lattice.specs.declared.Axis.{Axis}
+use Rattle.lattice.specs.Lattice.{takeOneOff, evenParent}
 use Rattle.lattice.proofs.even_parent.Statement.{statement}
 use Rattle.lattice.proofs.even_parent.Tie as tie
 
-down : (c : tie.Start) → TypeTold (c .args .q) → Fitting (moved (kept (c .args .q)) (getD neighborSteps 7 origin))
-down c told =
-    subst (λ (p : Coord). Fitting (moved p (getD neighborSteps 7 origin))) (sym (read (c .args .q) told))
-    (near (c .args .q) (c .pre) 7)
-
-lowered-alone-requires : tie.Need-lowered-alone-requires
-unfolding neighborSteps
-lowered-alone-requires c κs = down (c .before .before .before) (c .struct-told3 .given) .in-x
-
-lowered-alone-requires-2 : tie.Need-lowered-alone-requires-2
-unfolding neighborSteps
-lowered-alone-requires-2 c κs =
-    down (c .before .before .before .before .before .before .before) (c .struct-told6 .given) .in-y
-
-lowered-alone-requires-3 : tie.Need-lowered-alone-requires-3
-unfolding neighborSteps
-lowered-alone-requires-3 c κs =
-    down (c .before .before .before .before .before .before .before .before .before .before .before) (c .struct-told9 .given) .in-z
+take-one-off-requires : tie.Need-take-one-off-requires
+take-one-off-requires c κs = c .before .halves .ensures .1
 
 returns : tie.Need-returns
 returns c =
-    let told = c .before .struct-told9 .given in
-    let place = c .before .before .before .before .before .before .before .before .before .before .before .before .args .q in
-    let x = c .before .before .before .before .before .before .before .before .lowered-alone in
-    let y = c .before .before .before .before .lowered-alone2 in
-    let z = c .lowered-alone3 in
-    let in-x = put (record { sfits = x .ok }) (x .ensures) in
-    let in-y = put (record { sfits = y .ok }) (y .ensures) in
-    let in-z = put (record { sfits = z .ok }) (z .ensures) in
-    (λ i. at (in-x i) (in-y i) (in-z i)) ∙ ap evenParent (read place told)
+    let halved = c .before .before .halves in
+    c .take-one-off .ensures ∙ ap (λ (axis : Axis). takeOneOff axis (halved .result)) (c .before .differing-axis .ensures) ∙ ap evenParent (halved .ensures .0)
 
 pub even-parent-spec : {M : Type 1} → statement M
-even-parent-spec = tie.close (tie.spec lowered-alone-requires lowered-alone-requires-2 lowered-alone-requires-3 returns)
+even-parent-spec = tie.close (tie.spec (λ c κs. search needs) (λ c κs. search needs) take-one-off-requires returns)

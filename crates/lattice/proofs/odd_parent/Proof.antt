@@ -1,4 +1,5 @@
--- There is room to raise y and z by one, as for the neighbour (1, 1, 1).
+-- There is room to raise the halves y and z by one, as for the neighbour (1, 1, 1).
+use borrow.Author.Needs.{needs}
 use mathlib.Core.Path.{sym, subst, _∙_, ap}
 use lib.ListN.{getD}
 use Rattle.refusal.specs.declared.Coord.{Coord}
@@ -8,10 +9,10 @@ use Rattle.lattice.proofs.Room.{near}
 use Rattle.lattice.proofs.odd_parent.Statement.{statement}
 use Rattle.lattice.proofs.odd_parent.Tie as tie
 
-up : (c : tie.Start) → TypeTold (c .args .q) → Fitting (moved (kept (c .args .q)) (getD neighborSteps 0 origin))
+up : (c : tie.After-halves) → TypeTold (c .halves .result) → Fitting (moved (kept (c .halves .result)) (getD neighborSteps 0 origin))
 up c told =
-    subst (λ (p : Coord). Fitting (moved p (getD neighborSteps 0 origin))) (sym (read (c .args .q) told))
-    (near (c .args .q) (c .pre) 0)
+    subst (λ (p : Coord). Fitting (moved p (getD neighborSteps 0 origin))) (sym (read (c .halves .result) told))
+    (near (c .halves .result) (c .halves .ensures .1) 0)
 
 raised-to-requires : tie.Need-raised-to-requires
 unfolding neighborSteps
@@ -24,12 +25,12 @@ raised-to-requires-2 c κs = up (c .before .before .before .before .before) (c .
 returns : tie.Need-returns
 returns c =
     let told = c .struct-told5 .given in
-    let place = c .before .before .before .before .before .before .before .args .q in
+    let halved = c .before .before .before .before .before .before .before .halves in
     let y = c .before .before .before .before .raised-to in
     let z = c .before .raised-to2 in
     let in-y = put (record { sfits = y .ok }) (y .ensures) in
     let in-z = put (record { sfits = z .ok }) (z .ensures) in
-    (λ i. at (kept place .x) (in-y i) (in-z i)) ∙ ap oddParent (read place told)
+    (λ i. at (kept (halved .result) .x) (in-y i) (in-z i)) ∙ ap oddParent (read (halved .result) told ∙ halved .ensures .0)
 
 pub odd-parent-spec : {M : Type 1} → statement M
-odd-parent-spec = tie.close (tie.spec raised-to-requires raised-to-requires-2 returns)
+odd-parent-spec = tie.close (tie.spec (λ c κs. search needs) raised-to-requires raised-to-requires-2 returns)
