@@ -10,7 +10,7 @@ use Rattle.general.proofs.Tests.{both}
 use Rattle.general.specs.Each.{Each}
 
 module _ {A : Type 0} where
-  pub at-member : (P : A → Type 0) {l : List A} {a : A} → Memᴰ a l → Each P l → P a
+  pub at-member : (P : A → Type 0) {a : A} {l : List A} → Memᴰ a l → Each P l → P a
   at-member P (Memᴰ.head e) h = subst P (sym e) h.0
   at-member P (Memᴰ.tail m) h = at-member P m h.1
 

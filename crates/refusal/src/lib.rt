@@ -1,4 +1,6 @@
 // What a call answers when it has no answer: the refusals of the scope document and of the requests, with what each carries.
+#![tactic(auto)]
+
 ghost use Rattle.std.specs.Prelude.{◌≡◌};
 ghost use Rattle.refusal.specs.declared.Refusal.TheVariants.{BadLabel};
 ghost use Rattle.refusal.specs.Refusals.{carrying, carrying_nothing, row_of, number_of, room_of, fault_of};

@@ -1,5 +1,7 @@
 // Words of 16, 32 and 64 bits in bytes that a caller lends, in both byte orders: the survey file, the layers and the ids are
 // big-endian, workspaces little-endian. Each is written so that LLVM makes one load or one store of it.
+#![tactic(auto)]
+
 ghost use Rattle.std.specs.Prelude.{◌≡◌, ◌+◌, ◌*◌, ◌≤◌, ◌<◌, [], ◌∷◌, length};
 ghost use Rattle.std.proofs.lemmas.List.Edits.{sets};
 ghost use Rattle.words.specs.Word.{big, little, word, stored};

@@ -1,0 +1,13 @@
+-- The first i of the bytes that follow `from` stand in the other table.
+use Prim.Native.Nat.{◌-◌}
+use native.Mathlib.Omega.{arith}
+use lib.ListN.{drop, length-drop}
+use lib.Seq.{get_or-drop}
+use Rattle.words.proofs.Copies.{Pasted, pasted-none, pasted-more, pasted-all}
+use Rattle.words.proofs.bytes.copy.Given as goal
+
+abbrev pub invariant-loop-i : goal.invariant-loop-i
+invariant-loop-i l = Pasted l.initial.out l.to (drop l.from l.source) l.size l.i l.out
+
+abbrev pub decreases-loop-i : goal.decreases-loop-i
+decreases-loop-i l = l.size - l.i
