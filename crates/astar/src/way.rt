@@ -8,7 +8,7 @@ use refusal::{Refusal, Room};
 use search::{Route, SearchAnswer};
 
 // How many cells a route has, or that there is no way back.
-#[derive(Drop)]
+#[derive(Clone, Copy)]
 enum Length {
     Cells(usize),
     NoWay,

@@ -1,4 +1,6 @@
 // Bech32m, the checksum and the strings of BIP 350, over any prefix: a string is a prefix, the separator `1` and values of five bits, a character each, of which the last six are the checksum.
+#![tactic(auto)]
+
 ghost use Rattle.std.specs.Prelude.{◌≡◌, map, drop};
 ghost use Rattle.bech32m.specs.declared.Place.TheVariants.{At};
 ghost use Rattle.bech32m.specs.Text.{lowered, first_from, some_is};
@@ -9,14 +11,14 @@ ghost use Rattle.bech32m.specs.Valid.{is_of, is_mixed, separator_of, is_valid_at
 pub mod charset;
 
 // Where a character stands, counted from 0.
-#[derive(Drop)]
+#[derive(Clone, Copy)]
 pub enum Place {
     At(usize),
     Nowhere,
 }
 
 // What is looked for in a string.
-#[derive(Drop)]
+#[derive(Clone, Copy)]
 pub enum Kind {
     // A letter from a to z.
     Lower,

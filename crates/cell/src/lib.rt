@@ -17,14 +17,14 @@ use refusal::{Cell, Coord, Outcome, Refusal};
 pub const CELL_WIDTH: usize = 16;
 
 // A cell, or why there is none.
-#[derive(Drop)]
+#[derive(Clone, Copy)]
 pub enum CellAnswer {
     Is(Cell),
     Refused(Refusal),
 }
 
 // How the first of two cells stands to the second, over all 128 bits.
-#[derive(Drop)]
+#[derive(Clone, Copy)]
 pub enum Order {
     Below,
     Same,
@@ -32,21 +32,21 @@ pub enum Order {
 }
 
 // What lies between two cells: never a cell.
-#[derive(Drop)]
+#[derive(Clone, Copy)]
 pub enum Between {
     Nothing,
     Refused(Refusal),
 }
 
 // The 14 neighbours in the table's order; all zero where they are refused.
-#[derive(Drop)]
+#[derive(Clone, Copy)]
 pub struct Neighbors {
     pub outcome: Outcome,
     pub cells: [Cell; 14],
 }
 
 // The 8 children in the table's order; all zero where they are refused.
-#[derive(Drop)]
+#[derive(Clone, Copy)]
 pub struct Children {
     pub outcome: Outcome,
     pub cells: [Cell; 8],

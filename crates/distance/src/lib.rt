@@ -9,7 +9,7 @@ use refusal::{Coord, Refusal};
 use root::Root;
 
 // The distance, or why there is none.
-#[derive(Drop)]
+#[derive(Clone, Copy)]
 pub enum DistanceAnswer {
     Is(f64),
     Refused(Refusal),

@@ -21,7 +21,7 @@ use refusal::{Cell, Ends, Outcome, Refusal, Room, Spent};
 use waiting::Entry;
 
 // What is searched, and with what room.
-#[derive(Drop)]
+#[derive(Clone, Copy)]
 pub struct Plan {
     pub start: Cell,
     pub goal: Cell,
@@ -32,7 +32,7 @@ pub struct Plan {
 }
 
 // How many cells are known, how many entries wait, and how many cells are closed.
-#[derive(Drop)]
+#[derive(Clone, Copy)]
 pub struct Sizes {
     pub known: usize,
     pub waiting: usize,
@@ -40,7 +40,7 @@ pub struct Sizes {
 }
 
 // A search goes on, was refused, or has come to its goal.
-#[derive(Drop)]
+#[derive(Clone, Copy)]
 pub enum Step {
     Going(Sizes),
     Stopped(Refusal),
@@ -48,7 +48,7 @@ pub enum Step {
 }
 
 // How far a cell is from the goal, by its bits.
-#[derive(Drop)]
+#[derive(Clone, Copy)]
 pub enum Estimate {
     Bits(u64),
     Refused(Refusal),

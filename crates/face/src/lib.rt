@@ -16,7 +16,7 @@ use snap::PointBits;
 
 // A refusal's number, 0 for none, and what it carries: the room of NoRoom, the coordinates of InvalidParity.
 #[repr(C)]
-#[derive(Drop)]
+#[derive(Clone, Copy)]
 pub struct RefusalTold {
     pub number: u32,
     pub room: u32,
@@ -26,7 +26,7 @@ pub struct RefusalTold {
 }
 
 #[repr(C)]
-#[derive(Drop)]
+#[derive(Clone, Copy)]
 pub struct NumberTold {
     pub refusal: RefusalTold,
     pub value: i32,
@@ -34,14 +34,14 @@ pub struct NumberTold {
 
 // A double's bits.
 #[repr(C)]
-#[derive(Drop)]
+#[derive(Clone, Copy)]
 pub struct BitsTold {
     pub refusal: RefusalTold,
     pub bits: u64,
 }
 
 #[repr(C)]
-#[derive(Drop)]
+#[derive(Clone, Copy)]
 pub struct CoordTold {
     pub refusal: RefusalTold,
     pub x: i32,
@@ -51,7 +51,7 @@ pub struct CoordTold {
 
 // The bits of three doubles.
 #[repr(C)]
-#[derive(Drop)]
+#[derive(Clone, Copy)]
 pub struct PointTold {
     pub refusal: RefusalTold,
     pub x: u64,
@@ -60,7 +60,7 @@ pub struct PointTold {
 }
 
 #[repr(C)]
-#[derive(Drop)]
+#[derive(Clone, Copy)]
 pub struct FieldsTold {
     pub refusal: RefusalTold,
     pub frame: u8,
@@ -75,7 +75,7 @@ pub struct FieldsTold {
 
 // A layer's count after the call.
 #[repr(C)]
-#[derive(Drop)]
+#[derive(Clone, Copy)]
 pub struct CountTold {
     pub refusal: RefusalTold,
     pub count: u64,
@@ -83,7 +83,7 @@ pub struct CountTold {
 
 // What is kept of a cell, flags or the bits of a value, and the layer's count after the call.
 #[repr(C)]
-#[derive(Drop)]
+#[derive(Clone, Copy)]
 pub struct KeptTold {
     pub refusal: RefusalTold,
     pub found: u32,
@@ -93,7 +93,7 @@ pub struct KeptTold {
 
 // The place of the first byte of a file that is wrong, and the counts of both layers after the call.
 #[repr(C)]
-#[derive(Drop)]
+#[derive(Clone, Copy)]
 pub struct LoadTold {
     pub refusal: RefusalTold,
     pub place: u64,
@@ -103,7 +103,7 @@ pub struct LoadTold {
 
 // The place of the first character of a label that is wrong.
 #[repr(C)]
-#[derive(Drop)]
+#[derive(Clone, Copy)]
 pub struct PlaceTold {
     pub refusal: RefusalTold,
     pub place: u64,
@@ -111,7 +111,7 @@ pub struct PlaceTold {
 
 // The bytes that a file takes.
 #[repr(C)]
-#[derive(Drop)]
+#[derive(Clone, Copy)]
 pub struct LengthTold {
     pub refusal: RefusalTold,
     pub length: u64,
@@ -119,7 +119,7 @@ pub struct LengthTold {
 
 // A route's cells, the bits of its cost and the expansions that found it; the expansions and the limit of SearchLimitExceeded; the ends of NoPathFound.
 #[repr(C)]
-#[derive(Drop)]
+#[derive(Clone, Copy)]
 pub struct SearchTold {
     pub refusal: RefusalTold,
     pub cells: u64,
@@ -275,7 +275,7 @@ pub fn of_point(a: PointBits) -> PointTold
 }
 
 // The aggregation that a number of C asks for.
-#[derive(Drop)]
+#[derive(Clone, Copy)]
 pub enum Asked {
     For(Aggregation),
     Unknown,

@@ -1,5 +1,7 @@
 // Numbers of 64 bits by their bit patterns, after IEEE 754-2019. Each function takes every pattern, the NaNs among them, unless its contract says
 // which it takes.
+#![tactic(auto)]
+
 ghost use Rattle.std.specs.Prelude.{◌≡◌, true, false, pos, from_bits, to_bits};
 ghost use Rattle.std.specs.Float.{binary64, fin};
 ghost use Rattle.std.specs.Float.Ieee.{nan_bits, lt, le};

@@ -5,14 +5,14 @@ ghost use Rattle.input.specs.Input.{Fills, Reports};
 use survey::WriteAnswer;
 
 // How many bytes of an input stand at the front of a buffer, if none of the reads failed.
-#[derive(Drop)]
+#[derive(Clone, Copy)]
 pub enum ReadAnswer {
     Read(usize),
     Unread,
 }
 
 // What is said of an input: the answer of its report, or that a read failed.
-#[derive(Drop)]
+#[derive(Clone, Copy)]
 pub enum InputAnswer {
     Reported(WriteAnswer),
     Failed,

@@ -20,7 +20,7 @@ pub const RECORD_WIDTH: usize = 40;
 const LINK_OFFSET: usize = 16;
 
 // Where a cell stands among the known ones.
-#[derive(Drop)]
+#[derive(Clone, Copy)]
 pub enum Found {
     At(usize),
     Nowhere,

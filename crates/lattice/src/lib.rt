@@ -1,4 +1,6 @@
 // The body-centred cubic lattice on whole numbers: which points belong to it, their 14 neighbours, 8 children and parent, and the Manhattan distance.
+#![tactic(auto)]
+
 ghost use Rattle.std.specs.Prelude.{◌≡◌, true, not, ◌&&◌, ◌<◌, ◌^◌, nat_abs, ◌-ℤ◌};
 ghost use Rattle.std.specs.Bool.{beq};
 ghost use Rattle.std.specs.Int.{w32};
@@ -10,40 +12,40 @@ ghost use Rattle.lattice.specs.Lattice.{halves, raised, differing_axis, take_one
 use refusal::{Coord, Outcome, Refusal};
 
 // What the three coordinates of a lattice point have in common.
-#[derive(Drop)]
+#[derive(Clone, Copy)]
 pub enum Parity {
     Even,
     Odd,
 }
 
-#[derive(Drop)]
+#[derive(Clone, Copy)]
 pub enum ParityAnswer {
     Is(Parity),
     Refused(Refusal),
 }
 
-#[derive(Drop)]
+#[derive(Clone, Copy)]
 pub enum CoordAnswer {
     At(Coord),
     Refused(Refusal),
 }
 
 // A whole number, such as a Manhattan distance.
-#[derive(Drop)]
+#[derive(Clone, Copy)]
 pub enum NumberAnswer {
     Is(i32),
     Refused(Refusal),
 }
 
 // The 14 neighbours in the table's order; all zero where they are refused.
-#[derive(Drop)]
+#[derive(Clone, Copy)]
 pub struct Neighbors {
     pub outcome: Outcome,
     pub coords: [Coord; 14],
 }
 
 // The 8 children in the table's order; all zero where they are refused.
-#[derive(Drop)]
+#[derive(Clone, Copy)]
 pub struct Children {
     pub outcome: Outcome,
     pub coords: [Coord; 8],
@@ -299,7 +301,7 @@ fn halves(c: Coord) -> Coord
 }
 
 // An axis, or none of the three.
-#[derive(Drop)]
+#[derive(Clone, Copy)]
 enum Axis {
     X,
     Y,

@@ -13,7 +13,7 @@ use refusal::{CountAnswer, Refusal, Room};
 use table::Position;
 
 // What is kept of a cell, if anything.
-#[derive(Drop)]
+#[derive(Clone, Copy)]
 pub enum HeldAnswer {
     Kept(u64),
     Nothing,
@@ -21,7 +21,7 @@ pub enum HeldAnswer {
 }
 
 // The flags of a cell, if it has any.
-#[derive(Drop)]
+#[derive(Clone, Copy)]
 pub enum FlagsAnswer {
     Flags(u32),
     Nothing,
@@ -29,7 +29,7 @@ pub enum FlagsAnswer {
 }
 
 // The bits of a cell's value, if it has one.
-#[derive(Drop)]
+#[derive(Clone, Copy)]
 pub enum ValueAnswer {
     Bits(u64),
     Nothing,
@@ -37,7 +37,7 @@ pub enum ValueAnswer {
 }
 
 // Whether anything is kept of a cell.
-#[derive(Drop)]
+#[derive(Clone, Copy)]
 pub enum ContainsAnswer {
     Contained,
     Missing,
@@ -45,7 +45,7 @@ pub enum ContainsAnswer {
 }
 
 // Whether a layer has no cells.
-#[derive(Drop)]
+#[derive(Clone, Copy)]
 pub enum EmptyAnswer {
     Empty,
     Occupied,

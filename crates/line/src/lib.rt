@@ -13,7 +13,7 @@ use refusal::{Cell, Coord, CountAnswer, Refusal, Room};
 use snap::Point;
 
 // Two ends, the place of the start, the differences to the end, and the number of samples.
-#[derive(Drop)]
+#[derive(Clone, Copy)]
 pub struct Line {
     pub start: Cell,
     pub end: Cell,
@@ -23,7 +23,7 @@ pub struct Line {
 }
 
 // What a sample adds to the list: a cell, or nothing.
-#[derive(Drop)]
+#[derive(Clone, Copy)]
 pub enum Sample {
     New(Cell),
     Dropped,

@@ -6,7 +6,7 @@ ghost use Rattle.refusal.specs.declared.Refusal.TheVariants.{BadLabel};
 ghost use Rattle.refusal.specs.Refusals.{carrying, carrying_nothing, row_of, number_of, room_of, fault_of};
 
 // A place of the lattice. It is a lattice point where its coordinates are all even or all odd.
-#[derive(Drop)]
+#[derive(Clone, Copy)]
 pub struct Coord {
     pub x: i32,
     pub y: i32,
@@ -14,7 +14,7 @@ pub struct Coord {
 }
 
 // A packed cell, in two words of 64 bits.
-#[derive(Drop)]
+#[derive(Clone, Copy)]
 pub struct Cell {
     // Bits 64 to 127: y, then z.
     pub high: u64,
@@ -23,21 +23,21 @@ pub struct Cell {
 }
 
 // The two ends between which no route was found.
-#[derive(Drop)]
+#[derive(Clone, Copy)]
 pub struct Ends {
     pub start: Cell,
     pub goal: Cell,
 }
 
 // What a search had spent when its limit stopped it.
-#[derive(Drop)]
+#[derive(Clone, Copy)]
 pub struct Spent {
     pub expansions: u64,
     pub limit: u64,
 }
 
 // The room that was one too small.
-#[derive(Drop)]
+#[derive(Clone, Copy)]
 pub enum Room {
     Known,
     Waiting,
@@ -46,7 +46,7 @@ pub enum Room {
 }
 
 // What is wrong with a label.
-#[derive(Drop)]
+#[derive(Clone, Copy)]
 pub enum LabelFault {
     // It does not begin as a label does.
     Prefix,
@@ -61,13 +61,13 @@ pub enum LabelFault {
 }
 
 // A label that is none: what is wrong with it, and where.
-#[derive(Drop)]
+#[derive(Clone, Copy)]
 pub struct Mistyped {
     pub fault: LabelFault,
     pub place: u64,
 }
 
-#[derive(Drop)]
+#[derive(Clone, Copy)]
 pub enum Refusal {
     // The coordinates are neither all even nor all odd.
     InvalidParity(Coord),
@@ -94,14 +94,14 @@ pub enum Refusal {
 }
 
 // What a call that hands its answer over beside it says: it is there, or it is refused.
-#[derive(Drop)]
+#[derive(Clone, Copy)]
 pub enum Outcome {
     Answered,
     Refused(Refusal),
 }
 
 // A refusal's row of the table: its number, and what it carries. What it does not carry is 0.
-#[derive(Drop)]
+#[derive(Clone, Copy)]
 pub struct RefusalRow {
     pub number: u32,
     pub coord: Coord,
@@ -249,7 +249,7 @@ pub fn number(r: Refusal) -> u32
 }
 
 // How many cells a call lists, or a layer has.
-#[derive(Drop)]
+#[derive(Clone, Copy)]
 pub enum CountAnswer {
     Cells(usize),
     Refused(Refusal),

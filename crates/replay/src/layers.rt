@@ -12,7 +12,7 @@ use tishkolan::{aggregates, layers};
 const NEVER: u32 = 256;
 
 // How many records of each table are in use.
-#[derive(Drop)]
+#[derive(Clone, Copy)]
 pub struct Counts {
     pub flags: usize,
     pub values: usize,
@@ -20,7 +20,7 @@ pub struct Counts {
 }
 
 // Whether a call said what its record expects, and the counts after it.
-#[derive(Drop)]
+#[derive(Clone, Copy)]
 pub struct Replayed {
     pub agrees: bool,
     pub counts: Counts,

@@ -19,7 +19,7 @@ pub const UNTOUCHED: u8 = 0xA5;
 pub const UNTOUCHED_NUMBER: i32 = -1515870811;
 
 // How many records a list has, how many calls said something else than their record, and the first of these, counted from 0.
-#[derive(Drop)]
+#[derive(Clone, Copy)]
 pub struct Tally {
     pub answers: usize,
     pub differ: usize,

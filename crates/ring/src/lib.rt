@@ -14,7 +14,7 @@ use known::Found;
 use refusal::{Cell, CountAnswer, Outcome, Refusal, Room};
 
 // How many known cells, waiting cells and listed cells there is room for.
-#[derive(Drop)]
+#[derive(Clone, Copy)]
 pub struct Rooms {
     pub known: usize,
     pub waiting: usize,
@@ -22,21 +22,21 @@ pub struct Rooms {
 }
 
 // The number of known cells, or why the walk stopped.
-#[derive(Drop)]
+#[derive(Clone, Copy)]
 pub enum Walked {
     Going(usize),
     Stopped(Refusal),
 }
 
 // Records from one up to another.
-#[derive(Drop)]
+#[derive(Clone, Copy)]
 pub struct Span {
     pub from: usize,
     pub to: usize,
 }
 
 // The last cells, or why the walk stopped.
-#[derive(Drop)]
+#[derive(Clone, Copy)]
 pub enum Reached {
     Last(Span),
     Stopped(Refusal),

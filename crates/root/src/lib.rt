@@ -9,14 +9,14 @@ ghost use Rattle.root.specs.Root.{root_whole, root_of, root_bits_of};
 use refusal::Refusal;
 
 // The root of an f64, or why there is none.
-#[derive(Drop)]
+#[derive(Clone, Copy)]
 pub enum Root {
     Of(f64),
     Refused(Refusal),
 }
 
 // The same by the bits of the f64, so that every pattern, a NaN's too, can be asked for.
-#[derive(Drop)]
+#[derive(Clone, Copy)]
 pub enum RootBits {
     Bits(u64),
     Refused(Refusal),

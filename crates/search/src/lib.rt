@@ -2,14 +2,14 @@
 use refusal::Refusal;
 
 // A route at the front of the output: how many cells it has, the bits of its cost, and the cells that were closed to find it.
-#[derive(Drop)]
+#[derive(Clone, Copy)]
 pub struct Route {
     pub cells: usize,
     pub cost: u64,
     pub expansions: u64,
 }
 
-#[derive(Drop)]
+#[derive(Clone, Copy)]
 pub enum SearchAnswer {
     Found(Route),
     Refused(Refusal),

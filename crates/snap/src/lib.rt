@@ -9,28 +9,28 @@ use lattice::{CoordAnswer, ParityAnswer};
 use refusal::{Coord, Refusal};
 
 // A physical point.
-#[derive(Drop)]
+#[derive(Clone, Copy)]
 pub struct Point {
     pub x: f64,
     pub y: f64,
     pub z: f64,
 }
 
-#[derive(Drop)]
+#[derive(Clone, Copy)]
 pub enum PointAnswer {
     Is(Point),
     Refused(Refusal),
 }
 
 // A physical point by the bit patterns of its coordinates.
-#[derive(Drop)]
+#[derive(Clone, Copy)]
 pub struct BitsOfPoint {
     pub x: u64,
     pub y: u64,
     pub z: u64,
 }
 
-#[derive(Drop)]
+#[derive(Clone, Copy)]
 pub enum PointBits {
     Is(BitsOfPoint),
     Refused(Refusal),

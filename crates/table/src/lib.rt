@@ -11,7 +11,7 @@ pub mod records;
 use refusal::{Cell, Refusal};
 
 // Where a cell stands among the records, or where it would go.
-#[derive(Drop)]
+#[derive(Clone, Copy)]
 pub enum Position {
     At(usize),
     Before(usize),

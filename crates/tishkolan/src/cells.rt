@@ -20,13 +20,13 @@ const NEIGHBORS_WIDTH: usize = 14 * cell::CELL_WIDTH;
 const CHILDREN_WIDTH: usize = 8 * cell::CELL_WIDTH;
 
 // The two cells that C hands over.
-#[derive(Drop)]
+#[derive(Clone, Copy)]
 struct Pair {
     first: Cell,
     second: Cell,
 }
 
-#[derive(Drop)]
+#[derive(Clone, Copy)]
 enum PairAnswer {
     Are(Pair),
     Refused(Refusal),

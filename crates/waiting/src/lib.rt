@@ -11,7 +11,7 @@ use refusal::Cell;
 // An entry: f, the two words of its cell, g.
 pub const ENTRY_WIDTH: usize = 32;
 
-#[derive(Drop)]
+#[derive(Clone, Copy)]
 pub struct Entry {
     // The cost so far and the estimate of what is left, together.
     pub f: u64,

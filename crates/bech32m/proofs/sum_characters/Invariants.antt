@@ -1,0 +1,13 @@
+-- Each character stands for its value.
+use borrow.Author.Rules.{rules}
+use Prim.Native.Nat.{◌-◌}
+use lib.ListN.{length}
+use Rattle.bech32m.specs.Checksum.{value_of}
+use Rattle.bech32m.proofs.Sums.{Summed, summed-none, summed-more, summed-all}
+use Rattle.bech32m.proofs.sum_characters.Given as goal
+
+abbrev pub invariant-loop-i : goal.invariant-loop-i
+invariant-loop-i l = Summed value_of l.sum-2 l.text l.sum l.i
+
+abbrev pub decreases-loop-i : goal.decreases-loop-i
+decreases-loop-i l = length l.text - l.i
