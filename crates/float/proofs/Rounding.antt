@@ -71,11 +71,15 @@ twice-value m (negsuc k) t h =
 module _ (p q : ℕ) (some : 0 < q) (below : p / q < 18446744073709551616) where
   pub cast-above : (z : Float) → HasValue z false p q → T (lt (fin true 1 (pos 0)) z)
   unfolding lt
+  cast-above nan v = elim v [ ]
+  cast-above (inf _) v = elim v [ ]
   cast-above (fin true n d) v = absurd (true≢false v.0)
   cast-above (fin false n d) v = above_minus_one n d
 
   pub cast-below : (z : Float) → HasValue z false p q → T (lt z (fin false 1 (pos 64)))
   unfolding lt
+  cast-below nan v = elim v [ ]
+  cast-below (inf _) v = elim v [ ]
   cast-below (fin true n d) v = absurd (true≢false v.0)
   cast-below (fin false n d) v =
       lt→ltb (n * up d * 1) (18446744073709551616 * down d)
@@ -84,6 +88,8 @@ module _ (p q : ℕ) (some : 0 < q) (below : p / q < 18446744073709551616) where
 
   pub cast_is : (z : Float) → HasValue z false p q → to_unsigned 64 z ≡ p / q
   unfolding to_unsigned
+  cast_is nan v = elim v [ ]
+  cast_is (inf _) v = elim v [ ]
   cast_is (fin true n d) v = absurd (true≢false v.0)
   cast_is (fin false n d) v =
       let same = div_same (n * up d) (down d) p q (down_pos d) some v.1 in

@@ -72,6 +72,8 @@ pub data Stands : Float → Bool → ℕ → Type 0 where
   infinite : {s : Bool} → Stands (inf s) s 9218868437227405312
 
 number : (x : Float) (s : Bool) (p : ℕ) → p < 9218868437227405312 → HasValue x s (size_of p) (2 ^ 1074) → Stands x s p
+number nan s p h v = elim v [ ]
+number (inf _) s p h v = elim v [ ]
 number (fin t m e) s p h v = subst (λ (u : Bool). Stands (fin t m e) u p) v.0 (finite h v.1)
 
 fields-stand : (s : Bool) (x t p : ℕ) → p / 4503599627370496 ≡ x → p % 4503599627370496 ≡ t → p ≤ 9218868437227405312 → Stands (of_fields binary64 s x t) s p

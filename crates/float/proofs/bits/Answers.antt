@@ -1,5 +1,4 @@
 -- `float::bits` meets its contract: only a NaN differs from itself.
-use Rattle.std.proofs.Common.{rules}
 use Rattle.float.proofs.Nans.{number, nan-bits}
 use Rattle.float.proofs.bits.Goals as goal
 

@@ -1,5 +1,5 @@
 -- `float::key_bits` meets its contract: the test is the definition's.
-use Rattle.std.proofs.Common.{rules, le-ltb, lt-ltb}
+use Rattle.std.proofs.Common.{le-ltb, lt-ltb}
 use Rattle.float.specs.TotalOrder.{bits_of_key}
 use Rattle.float.proofs.key_bits.Goals as goal
 

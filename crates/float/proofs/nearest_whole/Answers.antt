@@ -5,6 +5,12 @@ use mir.Facts.{to_z_pos}
 use Rattle.float.proofs.Signs.{modest-above, modest-below, integer-above, integer-below, integer-zero}
 use Rattle.float.proofs.nearest_whole.Goals as goal
 
+as-integer : (n : ℕ) → n ≤ 1073741824 → to_z w32 n ≡ pos n
+as-integer n small = to_z_pos w32 (omega arith)
+
+as_fits : (n : ℕ) → n ≤ 1073741824 → SFits w32 (pos n)
+as_fits n small = record { sfits = omega arith }
+
 minus : (n : ℕ) → pos 0 -ℤ pos n ≡ neg_ℤ (pos n)
 minus zero = refl
 minus (suc n) = rw (lt-ltb 0 (suc n) (zero-lt-suc n)) (ap negsuc (omega arith))
@@ -22,7 +28,10 @@ whole_size-requires c =
     let m = modest-above c.args.x c.if-x.true c.requires.1 in (m.above, m.below)
 
 pub overflow_cast-result : goal.overflow_cast-result
-overflow_cast-result c = ?
+unfolding of_bits
+overflow_cast-result c =
+    let m = modest-above c.args.x c.if-x.true c.requires.1 in
+    as_fits c.whole_size.result (omega (arith, c.whole_size.ensures, m.size))
 
 pub returns-then-x : goal.returns-then-x
 unfolding of_bits
@@ -38,10 +47,18 @@ whole_size-requires-then-x-2 c =
     let m = modest-below c.args.x c.if-x-2.true c.requires.0 in (m.above, m.below)
 
 pub overflow_cast-result-then-x-2 : goal.overflow_cast-result-then-x-2
-overflow_cast-result-then-x-2 c = ?
+unfolding of_bits
+overflow_cast-result-then-x-2 c =
+    let m = modest-below c.args.x c.if-x-2.true c.requires.0 in
+    as_fits c.whole_size-then-x-2.result (omega (arith, c.whole_size-then-x-2.ensures, m.size))
 
 pub overflow_sub-result : goal.overflow_sub-result
-overflow_sub-result c = ?
+unfolding of_bits
+overflow_sub-result c =
+    let m = modest-below c.args.x c.if-x-2.true c.requires.0 in
+    let n = c.whole_size-then-x-2.result in
+    let h : n ≤ 1073741824 = omega (arith, c.whole_size-then-x-2.ensures, m.size) in
+    subst (SFits w32) (sym (taken-away n h)) (minus-fits n h)
 
 pub returns-then-x-2 : goal.returns-then-x-2
 unfolding of_bits

@@ -1,5 +1,5 @@
 -- `float::number` meets its contract: 0 / 0 is `nan`, and so is the value of a NaN's pattern.
-use Rattle.std.proofs.Common.{sym, ◌∙◌, rules}
+use Rattle.std.proofs.Common.{sym, ◌∙◌}
 use lib.Ieee.{of_bits, div}
 use Rattle.float.proofs.Laws.{nan-value}
 use Rattle.float.proofs.number.Goals as goal

@@ -1,5 +1,5 @@
 -- `float::power_of_two` meets its contract: the exponent's field alone is the pattern of a power of two.
-use Rattle.std.proofs.Common.{◌∙◌, arith, rules}
+use Rattle.std.proofs.Common.{◌∙◌, arith}
 use Rattle.float.proofs.Powers.{power-value, power-number}
 use Rattle.float.proofs.power_of_two.Goals as goal
 

@@ -1,5 +1,5 @@
 -- `float::total_order_key` meets its contract: the test is the definition's.
-use Rattle.std.proofs.Common.{rules, le-ltb, lt-ltb}
+use Rattle.std.proofs.Common.{le-ltb, lt-ltb}
 use Rattle.float.specs.TotalOrder.{total_key}
 use Rattle.float.proofs.total_order_key.Goals as goal
 
