@@ -17,6 +17,7 @@ module _ (m : ℕ) (e : ℤ) where
   in-range a b = go (eqb (m * up e % down e) 0 && leb (m * up e / down e) (2 ^ 64)) (and_i (eqb (m * up e % down e) 0) (leb (m * up e / down e) (2 ^ 64)) (eq→eqb a) (le→leb (m * up e / down e) (2 ^ 64) b))
     where
       go : (b : Bool) → T b → cond b (Of (root_whole (m * up e / down e))) (Refused OutOfRange) ≡ Of (root_whole (m * up e / down e))
+      go false t = elim t [ ]
       go true t = refl
 
   pub out_of_range : (m * up e % down e ≡ 0 → m * up e / down e ≤ 18446744073709551616 → ⊥) → root_of (fin false m e) ≡ Refused OutOfRange
@@ -37,6 +38,8 @@ module _ (m : ℕ) (e : ℤ) where
 
 -- A whole number up to 2 ^ 64 has the root of that number.
 pub answers : (x : Float) (n : ℕ) → HasValue x false n 1 → n ≤ 18446744073709551616 → root_of x ≡ Of (root_whole n)
+answers nan n h l = elim h [ ]
+answers (inf _) n h l = elim h [ ]
 answers (fin true m e) n h l = absurd (true≢false h.0)
 answers (fin false m e) n h l =
     let z : m * up e % down e ≡ 0 = ap (λ (x : ℕ). x % down e) (sym (mul-one (m * up e)) ∙ h.1) ∙ mul-mod_left n (down e) in
@@ -55,6 +58,8 @@ refuses (fin false m e) h =
 
 -- A whole number that has an answer is at most 2 ^ 64.
 pub answered : (x r : Float) (n : ℕ) → root_of x ≡ Of r → HasValue x false n 1 → n ≤ 18446744073709551616
+answered nan r n a h = elim h [ ]
+answered (inf _) r n a h = elim h [ ]
 answered (fin true m e) r n a h = absurd (true≢false h.0)
 answered (fin false m e) r n a h = go (leb n 18446744073709551616) (leb→le n 18446744073709551616) (nleb→lt n 18446744073709551616)
   where

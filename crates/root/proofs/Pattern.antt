@@ -1,6 +1,6 @@
 -- The pattern of q * 2 ^ j smallest numbers, q of 53 digits, is j * 2 ^ 52 + q, since the leading digit of q adds one to the exponent's field. So `joined` is m / 2 ^ (21 + s).
 use Rattle.std.proofs.Common.{◌≡◌, ℕ, ◌+◌, ◌-◌, ◌*◌, ◌/◌, ◌%◌, ◌^◌, ◌<◌, ◌≤◌, true, false, ◌⊎◌, sym, refl, ap, ◌∙◌, inl, inr, true≢false, le_trans, le_of_eq, lt_of_lt_of_le, mul-le-mul_right, mul_assoc, eq-or-lt_of_le, mul-pos, zero-add, mul-div_cancel, arith, lit<, lit≤, pow_pos, pow_mono, pow-add, shl_lt, le-ltb}
-use lib.Ieee.{Float, fin, binary64, up, down, size, round, of_bits, to_bits, nan_bits}
+use lib.Ieee.{Float, fin, binary64, up, down, size, round, of_bits, to_bits, nan_bits, inf, nan}
 use lib.Ieee.Fits.{down_pos, round-fits}
 use lib.Ieee.Exact.{HasValue, round_exact}
 use lib.Ieee.Digits.{size-lt, size-le}
@@ -27,6 +27,8 @@ module _ (q j : ℕ) (least : 4503599627370496 ≤ q) (most : q < 90071992547409
 
   bits_of : (x : Float) → HasValue x false (q * 2 ^ j) (2 ^ 1074) → to_bits binary64 x ≡ j * 4503599627370496 + q
   unfolding to_bits
+  bits_of nan v = elim v [ ]
+  bits_of (inf _) v = elim v [ ]
   bits_of (fin true m e) v = absurd (true≢false v.0)
   bits_of (fin false m e) v =
       let n = m * up e * 2 ^ 1074 / down e in

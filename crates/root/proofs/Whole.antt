@@ -101,6 +101,8 @@ cancel k D N g p h = le_antisymm (le_of_mul-le-mul_right (le_of_eq (mul_right_co
 
 value-test : (y : Float) (k m : ℕ) (e : ℤ) → HasValue y false k 1 → eq y (fin false m e) ≡ eqb (k * down e) (m * up e)
 unfolding eq
+value-test nan k m e h = elim h [ ]
+value-test (inf _) k m e h = elim h [ ]
 value-test (fin true a g) k m e h = absurd (true≢false h.0)
 value-test (fin false a g) k m e h =
     and-true (eqb (a * up g * down e) (m * up e * down g)) ∙ same (eqb (a * up g * down e) (m * up e * down g)) (eqb (k * down e) (m * up e))

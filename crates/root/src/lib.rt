@@ -1,5 +1,7 @@
 // The square root of a whole-valued f64, correctly rounded: no f64 is nearer to the true root than the answer.
 // It is worked out in whole numbers: the root of the number at 54 binary digits, one more than an f64 keeps, rounded to 53.
+#![tactic(auto)]
+
 ghost use Rattle.std.specs.Prelude.{◌≡◌, ◌*◌, ◌^◌, ◌≤◌, false};
 ghost use Rattle.std.specs.Float.{binary64};
 ghost use Rattle.std.specs.Float.Ieee.{round};
