@@ -8,13 +8,10 @@ use Rattle.lattice.proofs.halves.Goals as goal
 
 pub returns : goal.returns
 returns c =
-    let place = c.args.c in
     let told = c.struct_told-3-1.given in
-    let x = c.half in
-    let y = c.half-2 in
-    let z = c.half-3 in
-    let in-x = put (record { sfits = x.type-inv }) x.ensures in
-    let in-y = put (record { sfits = y.type-inv }) y.ensures in
-    let in-z = put (record { sfits = z.type-inv }) z.ensures in
-    let same : _ ≡ halves place = (λ i. at (in-x i) (in-y i) (in-z i)) ∙ ap halves (read place told) in
-    (same, ap has_neighbor_room same ∙ halves-near place (fit place told))
+    let h = c.half in
+    let in-x = put (record { sfits = c.half.type_inv }) c.half.ensures in
+    let in-y = put (record { sfits = c.half-2.type_inv }) c.half-2.ensures in
+    let in-z = put (record { sfits = c.half-3.type_inv }) c.half-3.ensures in
+    let same : _ ≡ halves c.args.c = (λ i. at (in-x i) (in-y i) (in-z i)) ∙ ap halves (read c.args.c told) in
+    (same, ap has_neighbor_room same ∙ halves-near c.args.c (fit c.args.c told))
