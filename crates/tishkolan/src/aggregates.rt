@@ -56,13 +56,7 @@ fn no_aggregation(table: &[u8], count: usize, cells: &[u8]) -> BitsTold
 }
 
 // The aggregate of what is kept of the cells of a list.
-#[unsafe(no_mangle)]
-pub extern "C" fn tishkolan_values_aggregate(
-    table: &[u8],
-    count: usize,
-    cells: &[u8],
-    how: u32,
-) -> BitsTold
+pub fn tishkolan_values_aggregate(table: &[u8], count: usize, cells: &[u8], how: u32) -> BitsTold
     ensures { result ≡ aggregate_told table.now count cells.now how }
 {
     let what = aggregation_of(how);
@@ -99,8 +93,7 @@ fn rollup_asked(fine: &[u8], count: usize, how: u32, coarse: &mut [u8]) -> Count
 }
 
 // The layer of the parents; given is the count of the coarse layer before.
-#[unsafe(no_mangle)]
-pub extern "C" fn tishkolan_values_rollup(
+pub fn tishkolan_values_rollup(
     fine: &[u8],
     count: usize,
     how: u32,

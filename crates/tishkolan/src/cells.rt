@@ -69,8 +69,7 @@ pub fn put_cell(out: &mut [u8], a: CellAnswer) -> RefusalTold
 }
 
 // The cell of these fields.
-#[unsafe(no_mangle)]
-pub extern "C" fn tishkolan_cell_new(
+pub fn tishkolan_cell_new(
     frame: u8,
     resolution: u8,
     x: i32,
@@ -86,8 +85,7 @@ pub extern "C" fn tishkolan_cell_new(
 }
 
 // The plain cell at a place.
-#[unsafe(no_mangle)]
-pub extern "C" fn tishkolan_cell_from_coords(
+pub fn tishkolan_cell_from_coords(
     frame: u8,
     resolution: u8,
     x: i32,
@@ -100,8 +98,7 @@ pub extern "C" fn tishkolan_cell_from_coords(
     put_cell(out, cell::from_coords(frame, resolution, x, y, z))
 }
 
-#[unsafe(no_mangle)]
-pub extern "C" fn tishkolan_cell_parent(cell: &[u8], out: &mut [u8]) -> RefusalTold
+pub fn tishkolan_cell_parent(cell: &[u8], out: &mut [u8]) -> RefusalTold
     ensures { filled result out.new ≡ parent_told cell.now out.old }
 {
     let given = cell::from_bytes(cell);
@@ -111,12 +108,7 @@ pub extern "C" fn tishkolan_cell_parent(cell: &[u8], out: &mut [u8]) -> RefusalT
     }
 }
 
-#[unsafe(no_mangle)]
-pub extern "C" fn tishkolan_cell_ancestor(
-    cell: &[u8],
-    resolution: u8,
-    out: &mut [u8],
-) -> RefusalTold
+pub fn tishkolan_cell_ancestor(cell: &[u8], resolution: u8, out: &mut [u8]) -> RefusalTold
     ensures { filled result out.new ≡ ancestor_told cell.now resolution out.old }
 {
     let given = cell::from_bytes(cell);
@@ -159,8 +151,7 @@ fn no_fields(r: Refusal) -> FieldsTold
     }
 }
 
-#[unsafe(no_mangle)]
-pub extern "C" fn tishkolan_cell_fields(cell: &[u8]) -> FieldsTold
+pub fn tishkolan_cell_fields(cell: &[u8]) -> FieldsTold
     ensures { result ≡ fields_told cell.now }
 {
     let given = cell::from_bytes(cell);
@@ -171,8 +162,7 @@ pub extern "C" fn tishkolan_cell_fields(cell: &[u8]) -> FieldsTold
 }
 
 // The place that a cell names, tested.
-#[unsafe(no_mangle)]
-pub extern "C" fn tishkolan_cell_lattice_coord(cell: &[u8]) -> CoordTold
+pub fn tishkolan_cell_lattice_coord(cell: &[u8]) -> CoordTold
     ensures { result ≡ lattice_coord_told cell.now }
 {
     let given = cell::from_bytes(cell);
@@ -183,8 +173,7 @@ pub extern "C" fn tishkolan_cell_lattice_coord(cell: &[u8]) -> CoordTold
 }
 
 // 1 for true, 0 for false.
-#[unsafe(no_mangle)]
-pub extern "C" fn tishkolan_cell_is_plain(cell: &[u8]) -> NumberTold
+pub fn tishkolan_cell_is_plain(cell: &[u8]) -> NumberTold
     ensures { result ≡ is_plain_told cell.now }
 {
     let given = cell::from_bytes(cell);
@@ -210,8 +199,7 @@ fn order_number(o: Order) -> i32
 }
 
 // -1, 0 or 1 as the first is below, the same as or above the second.
-#[unsafe(no_mangle)]
-pub extern "C" fn tishkolan_cell_compare(first: &[u8], second: &[u8]) -> NumberTold
+pub fn tishkolan_cell_compare(first: &[u8], second: &[u8]) -> NumberTold
     ensures { result ≡ compare_told first.now second.now }
 {
     let given = both(first, second);
@@ -231,8 +219,7 @@ fn of_between(b: Between) -> RefusalTold
     }
 }
 
-#[unsafe(no_mangle)]
-pub extern "C" fn tishkolan_cell_between(first: &[u8], second: &[u8]) -> RefusalTold
+pub fn tishkolan_cell_between(first: &[u8], second: &[u8]) -> RefusalTold
     ensures { result ≡ between_told first.now second.now }
 {
     let given = both(first, second);
@@ -242,8 +229,7 @@ pub extern "C" fn tishkolan_cell_between(first: &[u8], second: &[u8]) -> Refusal
     }
 }
 
-#[unsafe(no_mangle)]
-pub extern "C" fn tishkolan_cell_distance(first: &[u8], second: &[u8]) -> BitsTold
+pub fn tishkolan_cell_distance(first: &[u8], second: &[u8]) -> BitsTold
     ensures { result ≡ distance_told first.now second.now }
 {
     let given = both(first, second);
@@ -253,8 +239,7 @@ pub extern "C" fn tishkolan_cell_distance(first: &[u8], second: &[u8]) -> BitsTo
     }
 }
 
-#[unsafe(no_mangle)]
-pub extern "C" fn tishkolan_cell_manhattan_distance(first: &[u8], second: &[u8]) -> NumberTold
+pub fn tishkolan_cell_manhattan_distance(first: &[u8], second: &[u8]) -> NumberTold
     ensures { result ≡ manhattan_told first.now second.now }
 {
     let given = both(first, second);
@@ -289,8 +274,7 @@ fn put_children(out: &mut [u8], cells: [Cell; 8])
 }
 
 // The 14 neighbours, in the table's order.
-#[unsafe(no_mangle)]
-pub extern "C" fn tishkolan_cell_neighbors(cell: &[u8], out: &mut [u8]) -> RefusalTold
+pub fn tishkolan_cell_neighbors(cell: &[u8], out: &mut [u8]) -> RefusalTold
     ensures { filled result out.new ≡ neighbors_told cell.now out.old }
 {
     let given = cell::from_bytes(cell);
@@ -315,8 +299,7 @@ pub extern "C" fn tishkolan_cell_neighbors(cell: &[u8], out: &mut [u8]) -> Refus
 }
 
 // The 8 children, in the table's order.
-#[unsafe(no_mangle)]
-pub extern "C" fn tishkolan_cell_children(cell: &[u8], out: &mut [u8]) -> RefusalTold
+pub fn tishkolan_cell_children(cell: &[u8], out: &mut [u8]) -> RefusalTold
     ensures { filled result out.new ≡ children_told cell.now out.old }
 {
     let given = cell::from_bytes(cell);

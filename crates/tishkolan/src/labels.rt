@@ -21,8 +21,7 @@ fn put_label(out: &mut [u8], c: Cell) -> RefusalTold
     face::answered()
 }
 
-#[unsafe(no_mangle)]
-pub extern "C" fn tishkolan_cell_to_bech32m(cell: &[u8], out: &mut [u8]) -> RefusalTold
+pub fn tishkolan_cell_to_bech32m(cell: &[u8], out: &mut [u8]) -> RefusalTold
     ensures { filled result out.new ≡ label_told cell.now out.old }
 {
     let given = cell::from_bytes(cell);
@@ -43,8 +42,7 @@ fn place_in(a: CellAnswer) -> u64
 }
 
 // The cell of a label, with the place of the first mistake.
-#[unsafe(no_mangle)]
-pub extern "C" fn tishkolan_cell_from_bech32m(label: &[u8], out: &mut [u8]) -> PlaceTold
+pub fn tishkolan_cell_from_bech32m(label: &[u8], out: &mut [u8]) -> PlaceTold
     ensures { place_filled result out.new ≡ cell_told label.now out.old }
 {
     let read = label::from_bech32m(label);

@@ -16,29 +16,21 @@ fn one_less(count: usize) -> usize
 }
 
 // The flags of a cell from now on.
-#[unsafe(no_mangle)]
-pub extern "C" fn tishkolan_flags_set(
-    table: &mut [u8],
-    count: usize,
-    cell: &[u8],
-    flags: u32,
-) -> CountTold
+pub fn tishkolan_flags_set(table: &mut [u8], count: usize, cell: &[u8], flags: u32) -> CountTold
     ensures { changed result table.new ≡ saying (of_count count) (set_in flag_width table.old count cell.now flags) }
 {
     face::layers::of_count(count, layer::changes::set_flags(table, count, cell, flags))
 }
 
 // The flags of a cell, if there are any.
-#[unsafe(no_mangle)]
-pub extern "C" fn tishkolan_flags_get(table: &[u8], count: usize, cell: &[u8]) -> KeptTold
+pub fn tishkolan_flags_get(table: &[u8], count: usize, cell: &[u8]) -> KeptTold
     ensures { result ≡ of_flags_kept count count (of_flags (held_in flag_width table.now count cell.now)) }
 {
     face::layers::of_flags_kept(count, count, layer::get_flags(table, count, cell))
 }
 
 // A cell forgotten, and what was kept of it.
-#[unsafe(no_mangle)]
-pub extern "C" fn tishkolan_flags_remove(table: &mut [u8], count: usize, cell: &[u8]) -> KeptTold
+pub fn tishkolan_flags_remove(table: &mut [u8], count: usize, cell: &[u8]) -> KeptTold
     ensures { changed result table.new
         ≡ saying (of_flags_kept count (count - 1)) (saying of_flags (remove_in flag_width table.old count cell.now)) }
 {
@@ -50,69 +42,56 @@ pub extern "C" fn tishkolan_flags_remove(table: &mut [u8], count: usize, cell: &
 }
 
 // Whether a flag layer has a cell.
-#[unsafe(no_mangle)]
-pub extern "C" fn tishkolan_flags_contains(table: &[u8], count: usize, cell: &[u8]) -> NumberTold
+pub fn tishkolan_flags_contains(table: &[u8], count: usize, cell: &[u8]) -> NumberTold
     ensures { result ≡ of_contained (of_contains (held_in flag_width table.now count cell.now)) }
 {
     face::layers::of_contained(layer::contains_flags(table, count, cell))
 }
 
 // How many cells a flag layer has.
-#[unsafe(no_mangle)]
-pub extern "C" fn tishkolan_flags_count(table: &[u8], count: usize) -> CountTold
+pub fn tishkolan_flags_count(table: &[u8], count: usize) -> CountTold
     ensures { result ≡ of_count count (count_in flag_width table.now count) }
 {
     face::layers::of_count(count, layer::count_flags(table, count))
 }
 
 // Whether a flag layer has no cells.
-#[unsafe(no_mangle)]
-pub extern "C" fn tishkolan_flags_is_empty(table: &[u8], count: usize) -> NumberTold
+pub fn tishkolan_flags_is_empty(table: &[u8], count: usize) -> NumberTold
     ensures { result ≡ of_empty (empty_in flag_width table.now count) }
 {
     face::layers::of_empty(layer::is_empty_flags(table, count))
 }
 
 // A flag layer without cells.
-#[unsafe(no_mangle)]
-pub extern "C" fn tishkolan_flags_clear(table: &mut [u8])
+pub fn tishkolan_flags_clear(table: &mut [u8])
     ensures { table.new ≡ clear_in flag_width table.old }
 {
     layer::clear_flags(table);
 }
 
 // The records of a flag layer.
-#[unsafe(no_mangle)]
-pub extern "C" fn tishkolan_flags_list(table: &[u8], count: usize, out: &mut [u8]) -> CountTold
+pub fn tishkolan_flags_list(table: &[u8], count: usize, out: &mut [u8]) -> CountTold
     ensures { changed result out.new ≡ saying (of_count count) (list_in flag_width table.now count out.old) }
 {
     face::layers::of_count(count, layer::list_flags(table, count, out))
 }
 
 // The bits of a cell's value from now on.
-#[unsafe(no_mangle)]
-pub extern "C" fn tishkolan_values_set(
-    table: &mut [u8],
-    count: usize,
-    cell: &[u8],
-    bits: u64,
-) -> CountTold
+pub fn tishkolan_values_set(table: &mut [u8], count: usize, cell: &[u8], bits: u64) -> CountTold
     ensures { changed result table.new ≡ saying (of_count count) (set_in value_width table.old count cell.now bits) }
 {
     face::layers::of_count(count, layer::changes::set_value(table, count, cell, bits))
 }
 
 // The bits of a cell's value, if there are any.
-#[unsafe(no_mangle)]
-pub extern "C" fn tishkolan_values_get(table: &[u8], count: usize, cell: &[u8]) -> KeptTold
+pub fn tishkolan_values_get(table: &[u8], count: usize, cell: &[u8]) -> KeptTold
     ensures { result ≡ of_value_kept count count (of_value (held_in value_width table.now count cell.now)) }
 {
     face::layers::of_value_kept(count, count, layer::get_value(table, count, cell))
 }
 
 // A cell forgotten, and what was kept of it.
-#[unsafe(no_mangle)]
-pub extern "C" fn tishkolan_values_remove(table: &mut [u8], count: usize, cell: &[u8]) -> KeptTold
+pub fn tishkolan_values_remove(table: &mut [u8], count: usize, cell: &[u8]) -> KeptTold
     ensures { changed result table.new
         ≡ saying (of_value_kept count (count - 1)) (saying of_value (remove_in value_width table.old count cell.now)) }
 {
@@ -124,40 +103,35 @@ pub extern "C" fn tishkolan_values_remove(table: &mut [u8], count: usize, cell: 
 }
 
 // Whether a value layer has a cell.
-#[unsafe(no_mangle)]
-pub extern "C" fn tishkolan_values_contains(table: &[u8], count: usize, cell: &[u8]) -> NumberTold
+pub fn tishkolan_values_contains(table: &[u8], count: usize, cell: &[u8]) -> NumberTold
     ensures { result ≡ of_contained (of_contains (held_in value_width table.now count cell.now)) }
 {
     face::layers::of_contained(layer::contains_value(table, count, cell))
 }
 
 // How many cells a value layer has.
-#[unsafe(no_mangle)]
-pub extern "C" fn tishkolan_values_count(table: &[u8], count: usize) -> CountTold
+pub fn tishkolan_values_count(table: &[u8], count: usize) -> CountTold
     ensures { result ≡ of_count count (count_in value_width table.now count) }
 {
     face::layers::of_count(count, layer::count_values(table, count))
 }
 
 // Whether a value layer has no cells.
-#[unsafe(no_mangle)]
-pub extern "C" fn tishkolan_values_is_empty(table: &[u8], count: usize) -> NumberTold
+pub fn tishkolan_values_is_empty(table: &[u8], count: usize) -> NumberTold
     ensures { result ≡ of_empty (empty_in value_width table.now count) }
 {
     face::layers::of_empty(layer::is_empty_values(table, count))
 }
 
 // A value layer without cells.
-#[unsafe(no_mangle)]
-pub extern "C" fn tishkolan_values_clear(table: &mut [u8])
+pub fn tishkolan_values_clear(table: &mut [u8])
     ensures { table.new ≡ clear_in value_width table.old }
 {
     layer::clear_values(table);
 }
 
 // The records of a value layer.
-#[unsafe(no_mangle)]
-pub extern "C" fn tishkolan_values_list(table: &[u8], count: usize, out: &mut [u8]) -> CountTold
+pub fn tishkolan_values_list(table: &[u8], count: usize, out: &mut [u8]) -> CountTold
     ensures { changed result out.new ≡ saying (of_count count) (list_in value_width table.now count out.old) }
 {
     face::layers::of_count(count, layer::list_values(table, count, out))

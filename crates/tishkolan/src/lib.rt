@@ -1,4 +1,4 @@
-// The C face: every public call, exported on numbers and byte slices. include/tishkolan.h declares what stands here.
+// The C face: every public call, on numbers and byte slices. The crate tishkolan_c exports them, and include/tishkolan.h declares what stands here.
 pub mod aggregates;
 pub mod cells;
 pub mod flags;

@@ -7,8 +7,7 @@ ghost use Rattle.face.specs.Layers.{of_count};
 use face::CountTold;
 
 // The cells along the line between two cells, and how many they are.
-#[unsafe(no_mangle)]
-pub extern "C" fn tishkolan_trace_line(start: &[u8], end: &[u8], output: &mut [u8]) -> CountTold
+pub fn tishkolan_trace_line(start: &[u8], end: &[u8], output: &mut [u8]) -> CountTold
     ensures { changed result output.new ≡ saying (of_count 0) (trace_in start.now end.now output.old) }
 {
     face::layers::of_count(0, line::trace_line(start, end, output))

@@ -21,23 +21,20 @@ const NEIGHBORS_LENGTH: usize = 14 * PLACE_LENGTH;
 const CHILDREN_LENGTH: usize = 8 * PLACE_LENGTH;
 
 // The nearest double to the root.
-#[unsafe(no_mangle)]
-pub extern "C" fn tishkolan_square_root(bits: u64) -> BitsTold
+pub fn tishkolan_square_root(bits: u64) -> BitsTold
     ensures { result ≡ of_root (root_bits_of bits) }
 {
     face::of_root(root::square_root_bits(bits))
 }
 
-#[unsafe(no_mangle)]
-pub extern "C" fn tishkolan_parity(x: i32, y: i32, z: i32) -> NumberTold
+pub fn tishkolan_parity(x: i32, y: i32, z: i32) -> NumberTold
     ensures { result ≡ of_parity (parity_of (at x y z)) }
 {
     face::of_parity(lattice::parity_of(Coord { x, y, z }))
 }
 
 // The other of the two parities, 0 and 1; no other number is one.
-#[unsafe(no_mangle)]
-pub extern "C" fn tishkolan_opposite(parity: u32) -> NumberTold
+pub fn tishkolan_opposite(parity: u32) -> NumberTold
     ensures { result ≡ opposite_told parity }
 {
     if parity == 0 {
@@ -49,8 +46,7 @@ pub extern "C" fn tishkolan_opposite(parity: u32) -> NumberTold
     face::no_number(Refusal::OutOfRange)
 }
 
-#[unsafe(no_mangle)]
-pub extern "C" fn tishkolan_is_valid_lattice_point(x: i32, y: i32, z: i32) -> bool
+pub fn tishkolan_is_valid_lattice_point(x: i32, y: i32, z: i32) -> bool
     ensures { result ≡ is_lattice_point (at x y z) }
 {
     lattice::is_valid_lattice_point(Coord { x, y, z })
@@ -94,13 +90,7 @@ fn put_children(out: &mut [i32], places: [Coord; 8])
 }
 
 // The 14 neighbours, refused by their parity, their range and at last for want of room.
-#[unsafe(no_mangle)]
-pub extern "C" fn tishkolan_lattice_neighbors(
-    x: i32,
-    y: i32,
-    z: i32,
-    out: &mut [i32],
-) -> RefusalTold
+pub fn tishkolan_lattice_neighbors(x: i32, y: i32, z: i32, out: &mut [i32]) -> RefusalTold
     ensures { filled result out.new ≡ neighbors_told (at x y z) out.old }
 {
     let found = lattice::get_neighbors(Coord { x, y, z });
@@ -119,8 +109,7 @@ pub extern "C" fn tishkolan_lattice_neighbors(
 }
 
 // The 8 children, refused in the same order.
-#[unsafe(no_mangle)]
-pub extern "C" fn tishkolan_lattice_children(x: i32, y: i32, z: i32, out: &mut [i32]) -> RefusalTold
+pub fn tishkolan_lattice_children(x: i32, y: i32, z: i32, out: &mut [i32]) -> RefusalTold
     ensures { filled result out.new ≡ children_told (at x y z) out.old }
 {
     let found = lattice::get_children(Coord { x, y, z });
@@ -138,37 +127,26 @@ pub extern "C" fn tishkolan_lattice_children(x: i32, y: i32, z: i32, out: &mut [
     }
 }
 
-#[unsafe(no_mangle)]
-pub extern "C" fn tishkolan_lattice_parent(x: i32, y: i32, z: i32) -> CoordTold
+pub fn tishkolan_lattice_parent(x: i32, y: i32, z: i32) -> CoordTold
     ensures { result ≡ of_coord (parent_of (at x y z)) }
 {
     face::of_coord(lattice::get_parent(Coord { x, y, z }))
 }
 
 // The lattice point nearest to a physical one.
-#[unsafe(no_mangle)]
-pub extern "C" fn tishkolan_physical_to_lattice(x: u64, y: u64, z: u64, resolution: u8) -> CoordTold
+pub fn tishkolan_physical_to_lattice(x: u64, y: u64, z: u64, resolution: u8) -> CoordTold
     ensures { result ≡ of_coord (snap_of (point (of_bits binary64 x) (of_bits binary64 y) (of_bits binary64 z)) resolution) }
 {
     face::of_coord(snap::snap_bits(x, y, z, resolution))
 }
 
-#[unsafe(no_mangle)]
-pub extern "C" fn tishkolan_to_physical(x: i32, y: i32, z: i32) -> PointTold
+pub fn tishkolan_to_physical(x: i32, y: i32, z: i32) -> PointTold
     ensures { result ≡ of_point (physical_bits_of (at x y z)) }
 {
     face::of_point(snap::physical_bits(Coord { x, y, z }))
 }
 
-#[unsafe(no_mangle)]
-pub extern "C" fn tishkolan_lattice_distance(
-    ax: i32,
-    ay: i32,
-    az: i32,
-    bx: i32,
-    by: i32,
-    bz: i32,
-) -> BitsTold
+pub fn tishkolan_lattice_distance(ax: i32, ay: i32, az: i32, bx: i32, by: i32, bz: i32) -> BitsTold
     ensures { result ≡ of_distance (distance_of (at ax ay az) (at bx by bz)) }
 {
     face::of_distance(distance::distance_to(
@@ -185,8 +163,7 @@ pub extern "C" fn tishkolan_lattice_distance(
     ))
 }
 
-#[unsafe(no_mangle)]
-pub extern "C" fn tishkolan_lattice_manhattan_distance(
+pub fn tishkolan_lattice_manhattan_distance(
     ax: i32,
     ay: i32,
     az: i32,

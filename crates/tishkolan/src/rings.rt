@@ -7,8 +7,7 @@ ghost use Rattle.known.specs.Workspace.{in_rooms};
 use face::CountTold;
 
 // The cells within k steps of a centre.
-#[unsafe(no_mangle)]
-pub extern "C" fn tishkolan_k_ring(
+pub fn tishkolan_k_ring(
     center: &[u8],
     k: u64,
     known: usize,
@@ -26,8 +25,7 @@ pub extern "C" fn tishkolan_k_ring(
 }
 
 // The cells at exactly k steps.
-#[unsafe(no_mangle)]
-pub extern "C" fn tishkolan_k_shell(
+pub fn tishkolan_k_shell(
     center: &[u8],
     k: u64,
     known: usize,

@@ -5,8 +5,7 @@ ghost use Rattle.route.specs.Route.{verdict_of, claim};
 ghost use Rattle.table.specs.Records.{layer};
 
 // The verdict on a route from start to goal.
-#[unsafe(no_mangle)]
-pub extern "C" fn tishkolan_route_verdict(
+pub fn tishkolan_route_verdict(
     cells: &[u8],
     start: &[u8],
     goal: &[u8],
@@ -21,8 +20,7 @@ pub extern "C" fn tishkolan_route_verdict(
 }
 
 // What the loop flies: 1 the sent route, 2 the homing route, 0 neither.
-#[unsafe(no_mangle)]
-pub extern "C" fn tishkolan_route_choice(
+pub fn tishkolan_route_choice(
     sent: &[u8],
     start: &[u8],
     goal: &[u8],

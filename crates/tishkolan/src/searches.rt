@@ -8,8 +8,7 @@ ghost use Rattle.known.specs.Workspace.{in_rooms};
 use face::SearchTold;
 
 // A route from start to goal that closes no more cells than a limit.
-#[unsafe(no_mangle)]
-pub extern "C" fn tishkolan_astar_with_limit(
+pub fn tishkolan_astar_with_limit(
     start: &[u8],
     goal: &[u8],
     flags: &[u8],
@@ -42,8 +41,7 @@ pub extern "C" fn tishkolan_astar_with_limit(
 }
 
 // The same with a limit of 100,000.
-#[unsafe(no_mangle)]
-pub extern "C" fn tishkolan_astar(
+pub fn tishkolan_astar(
     start: &[u8],
     goal: &[u8],
     flags: &[u8],

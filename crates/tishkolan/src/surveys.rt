@@ -7,8 +7,7 @@ ghost use Rattle.face.specs.Surveys.{loading_told, of_loading, of_write};
 use face::{LengthTold, LoadTold};
 
 // A file's layers in place of both, or of neither.
-#[unsafe(no_mangle)]
-pub extern "C" fn tishkolan_survey_load(
+pub fn tishkolan_survey_load(
     file: &[u8],
     flags: &mut [u8],
     flags_count: usize,
@@ -22,8 +21,7 @@ pub extern "C" fn tishkolan_survey_load(
 }
 
 // Both layers as a file.
-#[unsafe(no_mangle)]
-pub extern "C" fn tishkolan_survey_write(
+pub fn tishkolan_survey_write(
     flags: &[u8],
     flags_count: usize,
     values: &[u8],

@@ -9,8 +9,7 @@ const MINOR: u32 = 4;
 const PATCH: u32 = 1;
 
 // The version "major.minor.patch" as one number, with three digits for each of the last two.
-#[unsafe(no_mangle)]
-pub extern "C" fn tishkolan_version() -> u32
+pub fn tishkolan_version() -> u32
     ensures { result ≡ version_told }
 {
     MAJOR * 1_000_000 + MINOR * 1_000 + PATCH

@@ -1,0 +1,149 @@
+// Layers for C: a table that C lends, and the count of its records in use, which C keeps.
+ghost use Rattle.std.specs.Prelude.{◌≡◌, ◌-◌};
+ghost use Rattle.layer.specs.Calls.{held_in, of_flags, of_value, of_contains, count_in};
+ghost use Rattle.general.specs.Changed.{changed, saying};
+ghost use Rattle.layer.specs.Changes.{set_in, remove_in, clear_in, list_in, empty_in};
+ghost use Rattle.face.specs.Layers.{of_count, of_flags_kept, of_value_kept, of_contained, of_empty};
+ghost use Rattle.table.specs.Records.{flag_width, value_width};
+
+use face::{CountTold, KeptTold, NumberTold};
+
+// The flags of a cell from now on.
+#[unsafe(no_mangle)]
+pub extern "C" fn tishkolan_flags_set(
+    table: &mut [u8],
+    count: usize,
+    cell: &[u8],
+    flags: u32,
+) -> CountTold
+    ensures { changed result table.new ≡ saying (of_count count) (set_in flag_width table.old count cell.now flags) }
+{
+    tishkolan::layers::tishkolan_flags_set(table, count, cell, flags)
+}
+
+// The flags of a cell, if there are any.
+#[unsafe(no_mangle)]
+pub extern "C" fn tishkolan_flags_get(table: &[u8], count: usize, cell: &[u8]) -> KeptTold
+    ensures { result ≡ of_flags_kept count count (of_flags (held_in flag_width table.now count cell.now)) }
+{
+    tishkolan::layers::tishkolan_flags_get(table, count, cell)
+}
+
+// A cell forgotten, and what was kept of it.
+#[unsafe(no_mangle)]
+pub extern "C" fn tishkolan_flags_remove(table: &mut [u8], count: usize, cell: &[u8]) -> KeptTold
+    ensures { changed result table.new
+        ≡ saying (of_flags_kept count (count - 1)) (saying of_flags (remove_in flag_width table.old count cell.now)) }
+{
+    tishkolan::layers::tishkolan_flags_remove(table, count, cell)
+}
+
+// Whether a flag layer has a cell.
+#[unsafe(no_mangle)]
+pub extern "C" fn tishkolan_flags_contains(table: &[u8], count: usize, cell: &[u8]) -> NumberTold
+    ensures { result ≡ of_contained (of_contains (held_in flag_width table.now count cell.now)) }
+{
+    tishkolan::layers::tishkolan_flags_contains(table, count, cell)
+}
+
+// How many cells a flag layer has.
+#[unsafe(no_mangle)]
+pub extern "C" fn tishkolan_flags_count(table: &[u8], count: usize) -> CountTold
+    ensures { result ≡ of_count count (count_in flag_width table.now count) }
+{
+    tishkolan::layers::tishkolan_flags_count(table, count)
+}
+
+// Whether a flag layer has no cells.
+#[unsafe(no_mangle)]
+pub extern "C" fn tishkolan_flags_is_empty(table: &[u8], count: usize) -> NumberTold
+    ensures { result ≡ of_empty (empty_in flag_width table.now count) }
+{
+    tishkolan::layers::tishkolan_flags_is_empty(table, count)
+}
+
+// A flag layer without cells.
+#[unsafe(no_mangle)]
+pub extern "C" fn tishkolan_flags_clear(table: &mut [u8])
+    ensures { table.new ≡ clear_in flag_width table.old }
+{
+    tishkolan::layers::tishkolan_flags_clear(table);
+}
+
+// The records of a flag layer.
+#[unsafe(no_mangle)]
+pub extern "C" fn tishkolan_flags_list(table: &[u8], count: usize, out: &mut [u8]) -> CountTold
+    ensures { changed result out.new ≡ saying (of_count count) (list_in flag_width table.now count out.old) }
+{
+    tishkolan::layers::tishkolan_flags_list(table, count, out)
+}
+
+// The bits of a cell's value from now on.
+#[unsafe(no_mangle)]
+pub extern "C" fn tishkolan_values_set(
+    table: &mut [u8],
+    count: usize,
+    cell: &[u8],
+    bits: u64,
+) -> CountTold
+    ensures { changed result table.new ≡ saying (of_count count) (set_in value_width table.old count cell.now bits) }
+{
+    tishkolan::layers::tishkolan_values_set(table, count, cell, bits)
+}
+
+// The bits of a cell's value, if there are any.
+#[unsafe(no_mangle)]
+pub extern "C" fn tishkolan_values_get(table: &[u8], count: usize, cell: &[u8]) -> KeptTold
+    ensures { result ≡ of_value_kept count count (of_value (held_in value_width table.now count cell.now)) }
+{
+    tishkolan::layers::tishkolan_values_get(table, count, cell)
+}
+
+// A cell forgotten, and what was kept of it.
+#[unsafe(no_mangle)]
+pub extern "C" fn tishkolan_values_remove(table: &mut [u8], count: usize, cell: &[u8]) -> KeptTold
+    ensures { changed result table.new
+        ≡ saying (of_value_kept count (count - 1)) (saying of_value (remove_in value_width table.old count cell.now)) }
+{
+    tishkolan::layers::tishkolan_values_remove(table, count, cell)
+}
+
+// Whether a value layer has a cell.
+#[unsafe(no_mangle)]
+pub extern "C" fn tishkolan_values_contains(table: &[u8], count: usize, cell: &[u8]) -> NumberTold
+    ensures { result ≡ of_contained (of_contains (held_in value_width table.now count cell.now)) }
+{
+    tishkolan::layers::tishkolan_values_contains(table, count, cell)
+}
+
+// How many cells a value layer has.
+#[unsafe(no_mangle)]
+pub extern "C" fn tishkolan_values_count(table: &[u8], count: usize) -> CountTold
+    ensures { result ≡ of_count count (count_in value_width table.now count) }
+{
+    tishkolan::layers::tishkolan_values_count(table, count)
+}
+
+// Whether a value layer has no cells.
+#[unsafe(no_mangle)]
+pub extern "C" fn tishkolan_values_is_empty(table: &[u8], count: usize) -> NumberTold
+    ensures { result ≡ of_empty (empty_in value_width table.now count) }
+{
+    tishkolan::layers::tishkolan_values_is_empty(table, count)
+}
+
+// A value layer without cells.
+#[unsafe(no_mangle)]
+pub extern "C" fn tishkolan_values_clear(table: &mut [u8])
+    ensures { table.new ≡ clear_in value_width table.old }
+{
+    tishkolan::layers::tishkolan_values_clear(table);
+}
+
+// The records of a value layer.
+#[unsafe(no_mangle)]
+pub extern "C" fn tishkolan_values_list(table: &[u8], count: usize, out: &mut [u8]) -> CountTold
+    ensures { changed result out.new ≡ saying (of_count count) (list_in value_width table.now count out.old) }
+{
+    tishkolan::layers::tishkolan_values_list(table, count, out)
+}
