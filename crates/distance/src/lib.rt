@@ -1,4 +1,6 @@
 // The Euclidean distance of two lattice points: differences, squares and sums rounded once each, in source order, then the square root.
+#![tactic(auto)]
+
 ghost use Rattle.std.specs.Prelude.{◌≡◌, true, ◌-ℤ◌};
 ghost use Rattle.std.specs.Int.{w32};
 ghost use Rattle.std.proofs.Common.{SFits};
