@@ -5,7 +5,6 @@ use Prim.Native.Nat.{ℕ}
 use lib.IntN.{pos}
 use lib.Ieee.{Float, nan, fin, binary64, mul, le}
 use Rattle.refusal.specs.declared.Refusal.TheVariants.{OutOfRange}
-use Rattle.lattice.specs.declared.ParityAnswer.TheVariants.{Refused}
 use Rattle.lattice.specs.declared.CoordAnswer.TheVariants as coord
 use Rattle.snap.specs.declared.Point.{Point}
 use Rattle.snap.specs.Snap.{point, scaled, in_range, all_in_range, snap_in, snap_of}

@@ -1,4 +1,6 @@
 // From physical points to the lattice and back: the laser's points are snapped to the nearest lattice point.
+#![tactic(auto)]
+
 ghost use Rattle.std.specs.Prelude.{◌≡◌, true, ◌&&◌};
 ghost use Rattle.std.specs.Float.{binary64};
 ghost use Rattle.std.specs.Float.Ieee.{of_bits};
