@@ -10,7 +10,6 @@ use Rattle.refusal.specs.declared.Room.{Room}
 use Rattle.refusal.specs.declared.Room.TheVariants.{Known, Waiting, Output, Layer}
 use Rattle.refusal.specs.declared.LabelFault.{LabelFault}
 use Rattle.refusal.specs.declared.LabelFault.TheVariants.{Prefix, MixedCase, Character, Length, Checksum, Padding}
-use Rattle.refusal.specs.declared.Mistyped.{Mistyped}
 use Rattle.refusal.specs.declared.Refusal.{Refusal}
 use Rattle.refusal.specs.declared.Refusal.TheVariants.{InvalidParity, NoParent, NoChildren, OutOfRange, NoValues, HasNan, SearchLimitExceeded, NoPathFound, CoordOverflow, NoRoom, BadWorkspace, BadFile, BadList, BadLayer, BadRule, BadLabel}
 

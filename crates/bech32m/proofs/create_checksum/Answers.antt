@@ -1,5 +1,4 @@
 -- The values are summed behind the prefix, and six zeros behind both.
-use borrow.Author.Rules.{rules}
 use mathlib.Core.List.{map, ◌++◌}
 use mathlib.Core.Path.{ap, ◌∙◌}
 use Prim.Native.Nat.{ℕ}

@@ -1,9 +1,5 @@
 -- The first one from i on is the first one from the beginning on.
-use borrow.Author.Rules.{rules}
-use mathlib.Core.Path.{◌≡◌, refl, sym, ◌∙◌}
-use Prim.Native.Nat.{◌-◌}
-use lib.ListN.{length, drop}
-use Rattle.bech32m.specs.Text.{first_from}
+use mathlib.Core.Path.{sym, ◌∙◌}
 use Rattle.bech32m.specs.Valid.{is_of}
 use Rattle.bech32m.proofs.Places.{first-end, first_more}
 use Rattle.bech32m.proofs.first_from.Goals as goal

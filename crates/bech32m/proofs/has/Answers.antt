@@ -1,5 +1,4 @@
 -- One is found where the first one stands somewhere.
-use borrow.Author.Rules.{rules}
 use Rattle.bech32m.specs.Valid.{is_of}
 use Rattle.bech32m.proofs.Places.{found_some}
 use Rattle.bech32m.proofs.has.Goals as goal

@@ -1,5 +1,4 @@
 -- Each answer is that of the definition's two tests.
-use borrow.Author.Rules.{rules}
 use mathlib.Core.Path.{sym, ◌∙◌}
 use Rattle.bech32m.specs.Valid.{is_mixed}
 use Rattle.bech32m.proofs.is_mixed.Goals as goal

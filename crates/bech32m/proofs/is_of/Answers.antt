@@ -1,5 +1,4 @@
 -- Each answer is that of the definition's two tests.
-use borrow.Author.Rules.{rules}
 use borrow.Author.Tests.{le-leb, lt-leb, lt-ltb, le-ltb, leb-true, leb-false}
 use lib.Dec.{leb}
 use Rattle.general.proofs.Tests.{whether}

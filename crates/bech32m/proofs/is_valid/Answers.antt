@@ -1,5 +1,4 @@
 -- Each answer is that of the definition's four tests.
-use borrow.Author.Rules.{rules}
 use borrow.Author.Tests.{le-leb, lt-leb}
 use mathlib.Core.Path.{sym, ap, ◌∙◌}
 use Rattle.bech32m.specs.Valid.{is_valid_at, is_valid}

@@ -1,12 +1,10 @@
 -- Each answer is that of the definition's four tests; the last is of the prefix and of the characters behind the separator.
-use borrow.Author.Rules.{rules}
 use borrow.Author.Tests.{le-leb, lt-leb}
 use mathlib.Core.List.{List, map}
 use mathlib.Core.Path.{sym, ap, ◌∙◌}
 use Prim.Native.Nat.{ℕ, ◌+◌}
 use native.Mathlib.Omega.{arith}
 use lib.ListN.{length, take}
-use lib.Seq.{length-take-le}
 use Rattle.bech32m.specs.Text.{lowered}
 use Rattle.bech32m.specs.Checksum.{value_of, verified}
 use Rattle.bech32m.specs.Valid.{is_valid_at}

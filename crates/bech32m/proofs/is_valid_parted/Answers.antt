@@ -1,6 +1,5 @@
 -- Each answer by its kind of place.
-use borrow.Author.Rules.{rules}
-use mathlib.Core.Path.{sym, ap, ◌∙◌}
+use mathlib.Core.Path.{sym, ap}
 use Rattle.bech32m.specs.Valid.{is_valid_at}
 use Rattle.bech32m.proofs.is_valid_parted.Goals as goal
 

@@ -1,11 +1,9 @@
 -- The last one from i on, or else the last one before i, is the last one.
-use borrow.Author.Rules.{rules}
 use borrow.Author.Tests.{eq-eqb, ne_eqb}
 use mathlib.Core.Bool.{Bool, cond}
-use mathlib.Core.Logic.{⊎_elim}
 use mathlib.Core.Path.{◌≡◌, sym, ap, ◌∙◌}
-use Prim.Native.Nat.{◌+◌, ◌-◌}
-use lib.ListN.{length, get_or, drop}
+use Prim.Native.Nat.{◌+◌}
+use lib.ListN.{get_or, drop}
 use Rattle.bech32m.specs.declared.Place.{Place}
 use Rattle.bech32m.specs.declared.Place.TheVariants.{At}
 use Rattle.bech32m.specs.Text.{last_from, or_else}

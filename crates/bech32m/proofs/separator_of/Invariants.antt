@@ -1,16 +1,9 @@
 -- The last one from i on, or else the last one before i, is the last one.
-use borrow.Author.Rules.{rules}
-use borrow.Author.Tests.{eq-eqb, ne_eqb}
-use mathlib.Core.Bool.{Bool, cond}
-use mathlib.Core.Logic.{⊎_elim}
-use mathlib.Core.Path.{◌≡◌, sym, ap, ◌∙◌}
-use Prim.Native.Nat.{◌+◌, ◌-◌}
-use lib.ListN.{length, get_or, drop}
-use Rattle.bech32m.specs.declared.Place.{Place}
-use Rattle.bech32m.specs.declared.Place.TheVariants.{At}
+use mathlib.Core.Path.{◌≡◌}
+use Prim.Native.Nat.{◌-◌}
+use lib.ListN.{length, drop}
 use Rattle.bech32m.specs.Text.{last_from, or_else}
 use Rattle.bech32m.specs.Valid.{is_separator, separator_of}
-use Rattle.bech32m.proofs.Places.{or-nowhere, last_end, last_more}
 use Rattle.bech32m.proofs.separator_of.Given as goal
 
 abbrev pub invariant-loop-i : goal.invariant-loop-i

@@ -1,5 +1,4 @@
 -- The definition's powers of 32 are the code's numbers.
-use borrow.Author.Rules.{rules}
 use native.Mathlib.Nat.{div-one}
 use Rattle.bech32m.specs.Checksum.{digits}
 use Rattle.bech32m.proofs.six_digits.Goals as goal

@@ -1,5 +1,4 @@
 -- The definition's powers of two are the code's numbers.
-use borrow.Author.Rules.{rules}
 use Rattle.bech32m.specs.Checksum.{step}
 use Rattle.bech32m.proofs.step.Goals as goal
 

@@ -1,9 +1,5 @@
 -- Each character stands for its value.
-use borrow.Author.Rules.{rules}
-use Prim.Native.Nat.{◌-◌}
-use lib.ListN.{length}
-use Rattle.bech32m.specs.Checksum.{value_of}
-use Rattle.bech32m.proofs.Sums.{Summed, summed-none, summed-more, summed-all}
+use Rattle.bech32m.proofs.Sums.{summed-more, summed-all}
 use Rattle.bech32m.proofs.sum_characters.Goals as goal
 
 pub loop-i-preserved : goal.loop-i-preserved

@@ -1,9 +1,8 @@
 -- Each character stands for its value.
-use borrow.Author.Rules.{rules}
 use Prim.Native.Nat.{◌-◌}
 use lib.ListN.{length}
 use Rattle.bech32m.specs.Checksum.{value_of}
-use Rattle.bech32m.proofs.Sums.{Summed, summed-none, summed-more, summed-all}
+use Rattle.bech32m.proofs.Sums.{Summed}
 use Rattle.bech32m.proofs.sum_characters.Given as goal
 
 abbrev pub invariant-loop-i : goal.invariant-loop-i

@@ -1,12 +1,10 @@
 -- Each character of the prefix, in lower case, stands for its high bits.
-use borrow.Author.Rules.{rules}
 use mathlib.Core.Path.{sym, ap, ◌∙◌}
 use mathlib.Core.List.{map-map}
-use Prim.Native.Nat.{ℕ, ◌-◌, ◌/◌}
-use lib.ListN.{length}
+use Prim.Native.Nat.{ℕ, ◌/◌}
 use Rattle.bech32m.specs.Text.{lowered}
 use Rattle.bech32m.specs.Checksum.{sum_from}
-use Rattle.bech32m.proofs.Sums.{Summed, summed-none, summed-more, summed-all}
+use Rattle.bech32m.proofs.Sums.{summed-more, summed-all}
 use Rattle.bech32m.proofs.sum_highs.Goals as goal
 
 pub loop-i-preserved : goal.loop-i-preserved

@@ -1,12 +1,8 @@
 -- Each character of the prefix, in lower case, stands for its low bits.
-use borrow.Author.Rules.{rules}
-use mathlib.Core.Path.{sym, ap, ◌∙◌}
-use mathlib.Core.List.{map-map}
 use Prim.Native.Nat.{ℕ, ◌-◌, ◌%◌}
 use lib.ListN.{length}
 use Rattle.bech32m.specs.Text.{lowered}
-use Rattle.bech32m.specs.Checksum.{sum_from}
-use Rattle.bech32m.proofs.Sums.{Summed, summed-none, summed-more, summed-all}
+use Rattle.bech32m.proofs.Sums.{Summed}
 use Rattle.bech32m.proofs.sum_lows.Given as goal
 
 abbrev pub invariant-loop-i : goal.invariant-loop-i

@@ -1,5 +1,4 @@
 -- The low bits are summed behind the high bits and the 0.
-use borrow.Author.Rules.{rules}
 use mathlib.Core.List.{◌∷◌, map}
 use mathlib.Core.Path.{ap, ◌∙◌}
 use Prim.Native.Nat.{ℕ}

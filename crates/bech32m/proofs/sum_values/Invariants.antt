@@ -1,11 +1,7 @@
 -- Each value stands for itself.
-use borrow.Author.Rules.{rules}
-use mathlib.Core.Path.{refl, ap, ◌∙◌}
-use mathlib.Core.List.{map-id}
 use Prim.Native.Nat.{ℕ, ◌-◌}
 use lib.ListN.{length}
-use Rattle.bech32m.specs.Checksum.{sum_from}
-use Rattle.bech32m.proofs.Sums.{Summed, summed-none, summed-more, summed-all}
+use Rattle.bech32m.proofs.Sums.{Summed}
 use Rattle.bech32m.proofs.sum_values.Given as goal
 
 abbrev pub invariant-loop-i : goal.invariant-loop-i

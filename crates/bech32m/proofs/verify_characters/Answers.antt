@@ -1,5 +1,4 @@
 -- The values of the characters are summed behind the prefix.
-use borrow.Author.Rules.{rules}
 use mathlib.Core.List.{map}
 use Rattle.bech32m.specs.Text.{lowered}
 use Rattle.bech32m.specs.Checksum.{value_of}

@@ -2,7 +2,6 @@
 use Prim.Native.Nat.{◌+◌}
 use native.Mathlib.Omega.{arith}
 use Rattle.words.proofs.One.{word_two}
-use borrow.Author.Rules.{rules}
 use Rattle.words.proofs.read16_big.Goals as goal
 
 pub returns : goal.returns

@@ -1,7 +1,6 @@
 -- A word of eight bytes is two words of four.
 use native.Mathlib.Omega.{arith}
 use Rattle.words.proofs.Laws.{word-split-big}
-use borrow.Author.Rules.{rules}
 use Rattle.words.proofs.read64_big.Goals as goal
 
 pub returns : goal.returns

@@ -1,7 +1,6 @@
 -- A word of eight bytes is two words of four.
 use native.Mathlib.Omega.{arith}
 use Rattle.words.proofs.Laws.{word-split-little}
-use borrow.Author.Rules.{rules}
 use Rattle.words.proofs.read64_little.Goals as goal
 
 pub returns : goal.returns

@@ -1,9 +1,6 @@
 -- The two bytes of the value, written out.
 use mathlib.Core.Path.{sym}
-use native.Mathlib.Omega.{arith}
-use lib.ListN.{length-set}
 use Rattle.words.proofs.One.{stored-two}
-use borrow.Author.Rules.{rules}
 use Rattle.words.proofs.write16_big.Goals as goal
 
 pub returns : goal.returns

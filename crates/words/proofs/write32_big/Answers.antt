@@ -1,7 +1,6 @@
 -- The four bytes of the value, written out.
 use Rattle.words.specs.Word.{big, ordered}
 use Rattle.words.proofs.Four.{stored-four}
-use borrow.Author.Rules.{rules}
 use Rattle.words.proofs.write32_big.Goals as goal
 
 pub returns : goal.returns

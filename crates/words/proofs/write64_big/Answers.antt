@@ -1,6 +1,5 @@
 -- A word of eight bytes is two words of four.
 use Rattle.words.proofs.Laws.{stored-split-big}
-use borrow.Author.Rules.{rules}
 use Rattle.words.proofs.write64_big.Goals as goal
 
 pub returns : goal.returns

@@ -1,6 +1,5 @@
 -- A word of eight bytes is two words of four.
 use Rattle.words.proofs.Laws.{stored-split-little}
-use borrow.Author.Rules.{rules}
 use Rattle.words.proofs.write64_little.Goals as goal
 
 pub returns : goal.returns

@@ -1,5 +1,4 @@
 -- The code's table is the charset; past it stands 0.
-use borrow.Author.Rules.{rules}
 use mathlib.Core.Path.{sym}
 use lib.ListN.{get_or-eq_default}
 use Rattle.bech32m.specs.Checksum.{charset}

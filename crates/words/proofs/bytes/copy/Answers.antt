@@ -1,9 +1,8 @@
 -- The first i of the bytes that follow `from` stand in the other table.
-use Prim.Native.Nat.{◌-◌}
 use native.Mathlib.Omega.{arith}
-use lib.ListN.{drop, length-drop}
+use lib.ListN.{length-drop}
 use lib.Seq.{get_or-drop}
-use Rattle.words.proofs.Copies.{Pasted, pasted-none, pasted-more, pasted-all}
+use Rattle.words.proofs.Copies.{pasted-more}
 use Rattle.words.proofs.bytes.copy.Goals as goal
 
 pub loop-i-preserved : goal.loop-i-preserved

@@ -1,9 +1,7 @@
 -- The first i of the bytes that follow `from` stand in the other table.
 use Prim.Native.Nat.{◌-◌}
-use native.Mathlib.Omega.{arith}
-use lib.ListN.{drop, length-drop}
-use lib.Seq.{get_or-drop}
-use Rattle.words.proofs.Copies.{Pasted, pasted-none, pasted-more, pasted-all}
+use lib.ListN.{drop}
+use Rattle.words.proofs.Copies.{Pasted}
 use Rattle.words.proofs.bytes.copy.Given as goal
 
 abbrev pub invariant-loop-i : goal.invariant-loop-i

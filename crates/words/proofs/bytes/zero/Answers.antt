@@ -1,8 +1,8 @@
 -- The first i of the zeros stand in the table.
 use Prim.Native.Nat.{ℕ, ◌-◌}
 use native.Mathlib.Omega.{arith}
-use lib.ListN.{replicate, length-replicate, get_or-replicate}
-use Rattle.words.proofs.Copies.{Pasted, pasted-none, pasted-more, zeroed-all}
+use lib.ListN.{length-replicate, get_or-replicate}
+use Rattle.words.proofs.Copies.{pasted-more}
 use Rattle.words.proofs.bytes.zero.Goals as goal
 
 pub loop-i-preserved : goal.loop-i-preserved

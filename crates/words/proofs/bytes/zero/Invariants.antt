@@ -1,8 +1,7 @@
 -- The first i of the zeros stand in the table.
-use Prim.Native.Nat.{ℕ, ◌-◌}
-use native.Mathlib.Omega.{arith}
-use lib.ListN.{replicate, length-replicate, get_or-replicate}
-use Rattle.words.proofs.Copies.{Pasted, pasted-none, pasted-more, zeroed-all}
+use Prim.Native.Nat.{◌-◌}
+use lib.ListN.{replicate}
+use Rattle.words.proofs.Copies.{Pasted}
 use Rattle.words.proofs.bytes.zero.Given as goal
 
 abbrev pub invariant-loop-i : goal.invariant-loop-i
