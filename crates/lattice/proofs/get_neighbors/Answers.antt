@@ -1,6 +1,5 @@
 -- Each answer by the tests that led to it: the parity's, then the room's.
-use borrow.Author.Rules.{rules}
-use mathlib.Core.Path.{sym, refl, ◌∙◌}
+use mathlib.Core.Path.{refl, ◌∙◌}
 use Rattle.refusal.specs.declared.Coord.{Coord}
 use Rattle.refusal.specs.declared.Outcome.TheVariants.{Answered}
 use Rattle.lattice.specs.declared.Neighbors.{Neighbors}

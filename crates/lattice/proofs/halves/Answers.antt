@@ -1,5 +1,4 @@
 -- Each field is its half; a half leaves room for a step.
-use borrow.Author.Rules.{rules}
 use mathlib.Core.Path.{◌≡◌, ◌∙◌, ap}
 use Rattle.lattice.specs.Lattice.{at, halves, has_neighbor_room}
 use Rattle.lattice.proofs.Fields.{fit, read, put}

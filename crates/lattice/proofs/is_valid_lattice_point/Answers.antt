@@ -1,5 +1,4 @@
 -- The two tests of the code are the two of the definition.
-use borrow.Author.Rules.{rules}
 use mathlib.Core.Path.{◌≡◌, sym, ◌∙◌, ap}
 use mathlib.Core.Bool.{Bool, ◌&&◌, beq}
 use Rattle.refusal.specs.declared.Coord.{Coord}

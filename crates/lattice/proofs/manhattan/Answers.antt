@@ -1,5 +1,4 @@
 -- The three distances are the definition's; each is below 2^32, so that their sum fits.
-use borrow.Author.Rules.{rules}
 use Prim.Native.Nat.{◌+◌}
 use mathlib.Core.Path.{◌∙◌}
 use Rattle.lattice.specs.Lattice.{manhattan}
