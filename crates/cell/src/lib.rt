@@ -1,4 +1,6 @@
 // The packed cell: 128 bits that name a frame, a resolution and a place of the lattice, with an exponent and flags.
+#![tactic(auto)]
+
 ghost use Rattle.std.specs.Prelude.{◌≡◌, map, ◌+◌, ◌≤◌, length};
 ghost use Rattle.lattice.specs.Lattice.{at};
 ghost use Rattle.cell.specs.Bytes.{cell_at, cell_bytes, from_bytes_of, cell_width};

@@ -1,0 +1,14 @@
+-- The invariant: the first i cells are those of the first i places.
+use borrow.Author.Rules.{rules}
+use native.Mathlib.Omega.{arith}
+use Prim.Native.Nat.{◌-◌}
+use Rattle.lattice.specs.Lattice.{origin}
+use Rattle.cell.specs.Cell.{plain_at}
+use Rattle.cell.proofs.Filled.{Filled, filled_more, filled-all}
+use Rattle.cell.proofs.plain14.Given as goal
+
+abbrev pub invariant-loop-i : goal.invariant-loop-i
+invariant-loop-i l = Filled 14 (plain_at l.frame l.resolution) l.places l.cells l.i
+
+abbrev pub decreases-loop-i : goal.decreases-loop-i
+decreases-loop-i l = 14 - l.i
