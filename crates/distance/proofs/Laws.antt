@@ -23,7 +23,7 @@ use Rattle.root.specs.declared.Root.TheVariants as root
 use Rattle.root.specs.Root.{root_of, root_whole}
 use Rattle.root.proofs.Answers.{answers}
 use Rattle.root.proofs.Number.{of_number}
-use Rattle.distance.specs.declared.DistanceAnswer.TheVariants.{Is, Refused}
+use Rattle.distance.specs.declared.DistanceAnswer.TheVariants.{Is}
 use Rattle.distance.specs.Distance.{difference_fits, differences_fit, square_apart, squared_distance, rooted, distance_of}
 use Rattle.distance.proofs.Split.{distance_in, distance_by}
 use Rattle.distance.proofs.Whole.{WholeTo, rounded-whole, square-at, sum-at}

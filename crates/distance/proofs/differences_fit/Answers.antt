@@ -1,5 +1,4 @@
 -- The three tests of the code are the three of the definition.
-use borrow.Author.Rules.{rules}
 use mathlib.Core.Path.{◌≡◌, sym, ◌∙◌}
 use mathlib.Core.Bool.{◌&&◌}
 use Rattle.lattice.proofs.Fields.{read}
