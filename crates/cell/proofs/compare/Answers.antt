@@ -1,5 +1,4 @@
 -- Each answer by the tests that led to it.
-use borrow.Author.Rules.{rules}
 use mathlib.Core.Path.{sym, ◌∙◌}
 use Rattle.cell.specs.Cell.{order_of}
 use Rattle.cell.proofs.compare.Goals as goal

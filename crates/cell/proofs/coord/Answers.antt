@@ -1,5 +1,4 @@
 -- Field by field: each is the number that its function gave.
-use borrow.Author.Rules.{rules}
 use Rattle.lattice.proofs.Fields.{put}
 use Rattle.cell.specs.Cell.{coord_of}
 use Rattle.cell.proofs.coord.Goals as goal

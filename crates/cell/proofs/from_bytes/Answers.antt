@@ -1,5 +1,4 @@
 -- Each answer by the length.
-use borrow.Author.Rules.{rules}
 use borrow.Author.Tests.{ne_eqb}
 use mathlib.Core.Path.{◌∙◌, sym, ap}
 use Rattle.cell.specs.declared.CellAnswer.TheVariants.{Is}

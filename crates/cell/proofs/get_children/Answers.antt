@@ -1,5 +1,4 @@
 -- Each answer by the tests that led to it: the resolution, the parity, then the room.
-use borrow.Author.Rules.{rules}
 use borrow.Author.Tests.{ne_eqb}
 use mathlib.Core.Path.{◌≡◌, sym, ◌∙◌, ap}
 use mathlib.Core.List.{map}

@@ -1,6 +1,5 @@
 -- Each answer by the tests that led to it: the parity, then the room.
-use borrow.Author.Rules.{rules}
-use mathlib.Core.Path.{sym, ◌∙◌, ap}
+use mathlib.Core.Path.{◌∙◌, ap}
 use mathlib.Core.List.{map}
 use Rattle.refusal.specs.declared.Cell.{Cell}
 use Rattle.refusal.specs.declared.Outcome.TheVariants.{Answered}

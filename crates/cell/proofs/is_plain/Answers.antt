@@ -1,5 +1,4 @@
 -- Each answer by the tests that led to it.
-use borrow.Author.Rules.{rules}
 use borrow.Author.Tests.{ne_eqb}
 use mathlib.Core.Path.{sym, ◌∙◌}
 use Rattle.cell.specs.Cell.{is_plain}

@@ -1,5 +1,4 @@
 -- The parity decides: each answer by its kind.
-use borrow.Author.Rules.{rules}
 use mathlib.Core.Path.{sym, ◌∙◌, ap}
 use Rattle.lattice.specs.Lattice.{parity_of}
 use Rattle.cell.proofs.Split.{coord_by}

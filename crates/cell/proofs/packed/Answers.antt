@@ -5,7 +5,6 @@ use mir.Val.{of_z}
 use mir.Facts.{to_z-of_z}
 use Rattle.lattice.proofs.Fields.{fit}
 use Rattle.cell.specs.Cell.{packed}
-use borrow.Author.Rules.{rules}
 use Rattle.cell.proofs.packed.Goals as goal
 
 pub returns : goal.returns

@@ -1,5 +1,4 @@
 -- Each answer by the tests that led to it: the resolution, then what the place's parent is.
-use borrow.Author.Rules.{rules}
 use mathlib.Core.Path.{◌≡◌, sym, ◌∙◌, ap}
 use Prim.Native.Nat.{ℕ, ◌-◌}
 use Rattle.refusal.specs.declared.Coord.{Coord}

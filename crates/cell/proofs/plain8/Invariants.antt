@@ -1,10 +1,7 @@
 -- The invariant: the first i cells are those of the first i places.
-use borrow.Author.Rules.{rules}
-use native.Mathlib.Omega.{arith}
 use Prim.Native.Nat.{◌-◌}
-use Rattle.lattice.specs.Lattice.{origin}
 use Rattle.cell.specs.Cell.{plain_at}
-use Rattle.cell.proofs.Filled.{Filled, filled_more, filled-all}
+use Rattle.cell.proofs.Filled.{Filled}
 use Rattle.cell.proofs.plain8.Given as goal
 
 abbrev pub invariant-loop-i : goal.invariant-loop-i

@@ -1,5 +1,4 @@
 -- Word by word.
-use borrow.Author.Rules.{rules}
 use Rattle.cell.specs.Bytes.{cell_at}
 use Rattle.cell.proofs.read_at.Goals as goal
 

@@ -1,5 +1,4 @@
 -- The bytes of both words, one after the other, fill the array.
-use borrow.Author.Rules.{rules}
 use mathlib.Core.Path.{refl, ◌∙◌}
 use Rattle.cell.proofs.BytesLaws.{cell-stored-whole}
 use Rattle.cell.proofs.to_bytes.Goals as goal
