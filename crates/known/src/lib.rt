@@ -1,4 +1,6 @@
 // The cells that a walk through the lattice knows, in bytes that its caller lends: records in the order of first sight, found by hash chains.
+#![tactic(auto)]
+
 ghost use Rattle.std.specs.Prelude.{◌≡◌, ◌+◌, ◌<◌, ◌≤◌};
 ghost use Rattle.known.specs.Inner.Known.{Roomy, mixed_of, bucket_of, cell_in, add_in, clear_in};
 ghost use Rattle.known.specs.Inner.Seek.{find_in};
