@@ -1,5 +1,7 @@
 // Layers: a lent table of records, each a cell's 16 bytes and what is kept of it, strictly ascending by cell, and a count of those in use.
 // A flag record has 20 bytes, a value record 24; what follows is said once, over the width.
+#![tactic(auto)]
+
 ghost use Rattle.std.specs.Prelude.{true, ◌≡◌, ◌+◌, ◌*◌, ◌≤◌, length};
 ghost use Rattle.table.specs.Records.{room_for, row_at, rows_of, first_fall, is_sound};
 ghost use Rattle.table.specs.Inner.Places.{Wide, Stands};

@@ -1,0 +1,13 @@
+-- The records before j have moved; then the last one is zeroed.
+use Prim.Native.Nat.{◌-◌, ◌≤◌}
+use native.Mathlib.Nat.{mul-le-mul_left}
+use native.Mathlib.Omega.{arith}
+use borrow.Author.Rules.{rules}
+use Rattle.table.proofs.Moved.{ends-within, Lowered, none-lowered, one-lowered, closed}
+use Rattle.table.proofs.moves.close_record.Given as goal
+
+abbrev pub invariant-loop-j : goal.invariant-loop-j
+invariant-loop-j l = (l.j ≤ l.count) × Lowered l.width l.initial.table l.i l.j l.table
+
+abbrev pub decreases-loop-j : goal.decreases-loop-j
+decreases-loop-j l = l.count - l.j

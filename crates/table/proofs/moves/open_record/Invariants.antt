@@ -1,0 +1,12 @@
+-- The records from j on have moved.
+use Prim.Native.Nat.{◌+◌, ◌-◌, ◌≤◌}
+use native.Mathlib.Omega.{arith}
+use borrow.Author.Rules.{rules}
+use Rattle.table.proofs.Moved.{ends-within, Raised, none-raised, one-raised, all-raised}
+use Rattle.table.proofs.moves.open_record.Given as goal
+
+abbrev pub invariant-loop-j : goal.invariant-loop-j
+invariant-loop-j l = (l.i ≤ l.j) × Raised l.width l.initial.table l.count l.j l.table
+
+abbrev pub decreases-loop-j : goal.decreases-loop-j
+decreases-loop-j l = l.j - l.i
