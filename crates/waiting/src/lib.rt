@@ -1,6 +1,8 @@
 // The waiting entries of a search, in bytes that a caller lends: a heap of four children, which has its least key at place 0. What each function
 // leaves is a function of the bytes, whether they are a heap or not. An entry is four little-endian words: f, the cell's high word, its low word, g.
 // In this order they decide which entry is less.
+#![tactic(auto)]
+
 ghost use Rattle.std.specs.Prelude.{◌≡◌, ◌+◌, ◌-◌, ◌*◌, ◌≤◌, ◌<◌, ltb, length};
 ghost use Rattle.waiting.specs.Inner.Entries.{entry_key, entry_at, key_in, entry_stored};
 ghost use Rattle.waiting.specs.Inner.Sift.{first_least, child_in, dug_in, risen_in, push_in, pop_in};
