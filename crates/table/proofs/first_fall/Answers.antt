@@ -2,7 +2,7 @@
 use mathlib.Core.Path.{◌≡◌, sym, ap, ◌∙◌}
 use mathlib.Core.Bool.{Bool}
 use mathlib.Core.List.{List}
-use Prim.Native.Nat.{ℕ, suc, ◌+◌, ◌-◌, ◌<◌}
+use Prim.Native.Nat.{ℕ, suc, ◌+◌}
 use borrow.Author.Count.{below_more}
 use borrow.Author.Rules.{rules}
 use native.Mathlib.Nat.{mul-zero}
@@ -12,7 +12,7 @@ use Rattle.refusal.specs.declared.Cell.{Cell}
 use Rattle.cell.specs.Cell.{less_cell}
 use Rattle.cell.specs.Bytes.{cell_at}
 use Rattle.table.specs.Records.{row_at}
-use Rattle.table.proofs.Laws.{Rises, row-cell, record-within, all-rise, falls}
+use Rattle.table.proofs.Laws.{row-cell, all-rise, falls}
 use Rattle.table.proofs.first_fall.Goals as goal
 
 -- two cells that were read are compared as those of their records

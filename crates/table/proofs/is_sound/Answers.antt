@@ -1,12 +1,11 @@
 -- First the count, then the order.
 use mathlib.Core.Path.{sym, ap, ap₂, ◌∙◌}
 use mathlib.Core.Bool.{Bool, ◌&&◌}
-use borrow.Author.Rules.{rules}
 use borrow.Author.Tests.{le-leb, lt-leb}
 use native.Mathlib.Omega.{arith}
 use lib.Dec.{eqb}
 use Rattle.table.specs.Records.{room_for, rows_of, ascending, is_sound}
-use Rattle.table.proofs.Laws.{ascending-by-fall, rows-within}
+use Rattle.table.proofs.Laws.{ascending-by-fall}
 use Rattle.table.proofs.Bytes.{length-rows_from}
 use Rattle.table.proofs.is_sound.Goals as goal
 

@@ -1,6 +1,5 @@
 -- A word of as many bytes as the width leaves.
 use mathlib.Core.Path.{◌∙◌}
-use borrow.Author.Rules.{rules}
 use native.Mathlib.Omega.{arith}
 use Rattle.table.proofs.Laws.{row_kept}
 use Rattle.table.proofs.kept_at.Goals as goal

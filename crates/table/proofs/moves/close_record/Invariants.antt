@@ -1,9 +1,6 @@
 -- The records before j have moved; then the last one is zeroed.
 use Prim.Native.Nat.{◌-◌, ◌≤◌}
-use native.Mathlib.Nat.{mul-le-mul_left}
-use native.Mathlib.Omega.{arith}
-use borrow.Author.Rules.{rules}
-use Rattle.table.proofs.Moved.{ends-within, Lowered, none-lowered, one-lowered, closed}
+use Rattle.table.proofs.Moved.{Lowered}
 use Rattle.table.proofs.moves.close_record.Given as goal
 
 abbrev pub invariant-loop-j : goal.invariant-loop-j

@@ -1,8 +1,7 @@
 -- The records from j on have moved.
-use Prim.Native.Nat.{◌+◌, ◌-◌, ◌≤◌}
 use native.Mathlib.Omega.{arith}
 use borrow.Author.Rules.{rules}
-use Rattle.table.proofs.Moved.{ends-within, Raised, none-raised, one-raised, all-raised}
+use Rattle.table.proofs.Moved.{one-raised}
 use Rattle.table.proofs.moves.open_record.Goals as goal
 
 pub loop-j-preserved : goal.loop-j-preserved

@@ -1,8 +1,6 @@
 -- The records from j on have moved.
-use Prim.Native.Nat.{◌+◌, ◌-◌, ◌≤◌}
-use native.Mathlib.Omega.{arith}
-use borrow.Author.Rules.{rules}
-use Rattle.table.proofs.Moved.{ends-within, Raised, none-raised, one-raised, all-raised}
+use Prim.Native.Nat.{◌-◌, ◌≤◌}
+use Rattle.table.proofs.Moved.{Raised}
 use Rattle.table.proofs.moves.open_record.Given as goal
 
 abbrev pub invariant-loop-j : goal.invariant-loop-j

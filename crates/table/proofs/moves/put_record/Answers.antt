@@ -4,7 +4,6 @@ use native.Mathlib.Omega.{arith}
 use Rattle.words.specs.Word.{big}
 use Rattle.words.proofs.Laws.{stored-mod}
 use Rattle.table.proofs.Moved.{put}
-use borrow.Author.Rules.{rules}
 use Rattle.table.proofs.moves.put_record.Goals as goal
 
 pub returns-then-width-eq-FLAG_WIDTH : goal.returns-then-width-eq-FLAG_WIDTH

@@ -1,7 +1,6 @@
 -- What was read of the one is what is written to the other.
 use native.Mathlib.Omega.{arith}
 use Rattle.table.proofs.Moved.{copied}
-use borrow.Author.Rules.{rules}
 use Rattle.table.proofs.moves.shift_record.Goals as goal
 
 pub returns : goal.returns

@@ -1,9 +1,7 @@
 -- The rows' own bytes at the front, then zeros up to the room.
 use mathlib.Core.Path.{ap, ◌∙◌}
 use Prim.Native.Nat.{ℕ}
-use native.Mathlib.Nat.{mul-le-mul_left}
 use native.Mathlib.Omega.{arith}
-use borrow.Author.Rules.{rules}
 use Rattle.table.specs.Records.{rows_of, refilled}
 use Rattle.table.proofs.Laws.{rows-within}
 use Rattle.table.proofs.Refills.{copied-refills}
