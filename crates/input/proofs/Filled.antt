@@ -2,7 +2,7 @@
 use mathlib.Core.Path.{◌≡◌, subst}
 use mathlib.Core.List.{List}
 use Prim.Native.Nat.{ℕ}
-use Rattle.io.specs.Counts.{IsPrefixLen}
+use Rattle.std.specs.Counts.{IsPrefixLen}
 use Rattle.input.specs.declared.ReadAnswer.{ReadAnswer}
 use Rattle.input.specs.declared.ReadAnswer.TheVariants.{Read}
 use Rattle.input.specs.Input.{Fills}

@@ -7,7 +7,7 @@ use borrow.Fn.Kinds.{Dens, ended_of}
 use contract.Lifetimes.{Lfts}
 use denote.Triple.Clauses.{AtExit}
 use lib.ListN.{length, take, length-take}
-use Rattle.io.specs.Counts.{IsPrefixLen}
+use Rattle.std.specs.Counts.{IsPrefixLen}
 use Rattle.general.specs.Changed.{Changed, changed}
 use Rattle.survey.specs.declared.WriteAnswer.{WriteAnswer}
 use Rattle.survey.specs.declared.WriteAnswer.TheVariants.{Written}

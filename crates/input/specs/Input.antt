@@ -2,7 +2,7 @@
 use Rattle.std.specs.Prelude.{◌≡◌, List, ℕ, ◌≤◌, length}
 use Rattle.general.specs.Changed.{changed}
 use Rattle.report_text.specs.Summary.{report_in, most_read}
-use Rattle.io.specs.Counts.{IsPrefixLen}
+use Rattle.std.specs.Counts.{IsPrefixLen}
 use Rattle.input.specs.declared.ReadAnswer.{ReadAnswer}
 use Rattle.input.specs.declared.ReadAnswer.TheVariants.{Read, Unread}
 use Rattle.input.specs.declared.InputAnswer.{InputAnswer}

@@ -1,7 +1,13 @@
 // Replays the four lists of the Rust oracle's answers that its arguments name, of points and cells, of layers, of rings and lines, and of searches, and
 // prints of each how many of the calls answer otherwise. They were made by `oracle/build` and `target/oracle/checked/vectors crates/replay/data`, from
 // the Rust files of oracle/octaindex3d with the patches of oracle/patches; tests/run makes them anew and compares.
-use libc::STDOUT_FILENO;
+#![tactic(auto)]
+
+ghost use Rattle.std.specs.Io.{ReadsAtMost};
+
+use std::env::Env;
+use std::io::Read;
+use std::{fs, io, str};
 
 mod cells;
 mod each;
@@ -13,44 +19,68 @@ mod recorded;
 mod searches;
 
 // The answers, those that differ, and the first of them.
-fn report_answers(list: &[u8], argument: usize, what: &[u8]) {
+fn report_answers(rt: &HostRuntime, list: &[u8], argument: usize, what: &str) -> io::Result<()> {
     let tally = each::replay(list, argument);
-    io::print_decimal(STDOUT_FILENO, tally.answers as u64);
-    io::write_all(STDOUT_FILENO, what);
-    io::print_decimal(STDOUT_FILENO, tally.differ as u64);
-    io::write_all(STDOUT_FILENO, b" differ");
+    print!(rt; "{}{what}{} differ", tally.answers, tally.differ)?;
     if tally.differ > 0 {
-        io::write_all(STDOUT_FILENO, b", the first at record ");
-        io::print_decimal(STDOUT_FILENO, tally.first as u64);
+        print!(rt; ", the first at record {}", tally.first)?;
     }
+    Ok(())
 }
 
 // One line, which also says whether the list is cut off. Of a list of searches that shows in the search whose body is not whole.
-fn report(list: &[u8], argument: usize, what: &[u8]) {
-    report_answers(list, argument, what);
+fn report(rt: &HostRuntime, list: &[u8], argument: usize, what: &str) -> io::Result<()> {
+    report_answers(rt, list, argument, what)?;
     if argument != each::SEARCHES && list.len() % 64 != 0 {
-        io::write_all(STDOUT_FILENO, b", and the list ends inside a record");
+        print!(rt; ", and the list ends inside a record")?;
     }
-    io::write_all(STDOUT_FILENO, b"\n");
+    println!(rt; "")
 }
 
-fn replay(argument: usize, what: &[u8]) {
-    let mut path = io::buffer();
-    let length = os::arg(argument, &mut path);
-    let file = os::open_read(&path[..length]);
-    if file < 0 {
-        os::fail(&path[..length]);
-        return;
+// Reads until the buffer is full or the input ends, and answers with how many bytes stand at its front.
+fn read_whole(from: &mut impl Read, buffer: &mut [u8]) -> io::Result<usize>
+    ensures { ReadsAtMost result buffer.new }
+{
+    let mut done = 0;
+    while done < buffer.len() {
+        let more = from.read(&mut buffer[done..])?;
+        if more == 0 {
+            return Ok(done);
+        }
+        done += more;
     }
-    let mut list = io::large_buffer();
-    let read = io::read_full(file, &mut list);
-    libc::close(file);
-    report(&list[..read], argument, what);
+    Ok(done)
 }
 
-fn main() {
-    replay(each::CELLS, b" answers, ");
-    replay(each::LAYERS, b" answers on layers, ");
-    replay(each::PATHS, b" answers on rings and lines, ");
-    replay(each::SEARCHES, b" answers on searches, ");
+// The front of a file, as much as the buffer holds.
+fn read_file(rt: &HostRuntime, path: &str, buffer: &mut [u8]) -> io::Result<usize>
+    ensures { ReadsAtMost result buffer.new }
+{
+    let mut file = fs::open(rt, path)?;
+    read_whole(&mut file, buffer)
+}
+
+// Puts an argument at the front of the buffer. One that is longer, or not there, names no file.
+fn argument_text<'a>(rt: &HostRuntime, argument: usize, buffer: &'a mut [u8]) -> &'a str {
+    match rt.arg(argument, buffer) {
+        Ok(length) => str::from_utf8(&buffer[..length]).unwrap_or(""),
+        Err(_) => "",
+    }
+}
+
+fn replay(rt: &HostRuntime, argument: usize, what: &str) -> io::Result<()> {
+    let mut name = [0u8; 4096];
+    let path = argument_text(rt, argument, &mut name);
+    let mut list = [0u8; 65536];
+    match read_file(rt, path, &mut list) {
+        Ok(size) => report(rt, &list[..size], argument, what),
+        Err(why) => eprintln!(rt; "{path}: {why}"),
+    }
+}
+
+fn main(rt: HostRuntime) -> io::Result<()> {
+    replay(&rt, each::CELLS, " answers, ")?;
+    replay(&rt, each::LAYERS, " answers on layers, ")?;
+    replay(&rt, each::PATHS, " answers on rings and lines, ")?;
+    replay(&rt, each::SEARCHES, " answers on searches, ")
 }
