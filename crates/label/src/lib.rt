@@ -1,4 +1,6 @@
 // A cell's name on paper: `cx3d1`, the cell's 128 bits as 26 characters, and six that show a mistyped one.
+#![tactic(auto)]
+
 ghost use Rattle.std.specs.Prelude.{◌≡◌, ◌++◌, map, ◌+◌, ◌*◌, ◌/◌, ◌^◌, ◌<◌, ◌≤◌, length, take, drop};
 ghost use Rattle.refusal.specs.Refusals.{raw_of, cell_of};
 ghost use Rattle.bech32m.specs.declared.Place.TheVariants.{Nowhere};

@@ -1,0 +1,18 @@
+-- The five highest bits of the lower word are the lowest of the higher, which has room for them.
+use borrow.Author.Rules.{rules}
+use native.Mathlib.Omega.{arith}
+use Rattle.refusal.specs.Refusals.{raw_of}
+use Rattle.label.proofs.Shifts.{room-five}
+use Rattle.label.proofs.with_five.Goals as goal
+
+pub overflow_mul-result : goal.overflow_mul-result
+unfolding raw_of
+overflow_mul-result c = omega (arith, room-five c.args.c.high c.args.c.low c.requires.0)
+
+pub overflow_add-result : goal.overflow_add-result
+unfolding raw_of
+overflow_add-result c = omega (arith, room-five c.args.c.high c.args.c.low c.requires.0)
+
+pub returns : goal.returns
+unfolding raw_of
+returns c = omega arith
