@@ -1,4 +1,6 @@
 // A list of cells as the answer of a call, in a buffer that its caller lends: rings, lines and routes fill its front and leave the rest.
+#![tactic(auto)]
+
 ghost use Rattle.std.specs.Prelude.{◌≡◌, ◌+◌, ◌*◌, ◌≤◌, length};
 ghost use Rattle.cell_list.specs.Listing.{room_in};
 ghost use Rattle.cell_list.specs.Inner.Listing.{cell_put};
