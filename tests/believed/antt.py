@@ -21,8 +21,8 @@ def key_of(crate, path, top):
 
 
 def resolve(mod):
-    """the module Rattle·cell·specs.specs.Cell or Rattle·cell.specs.Cell as cell|specs.Cell"""
-    m = re.match(r'Rattle·([a-z_0-9]+)(?:·specs|·proofs)?\.(.*)$', mod)
+    """the module Rattle.cell.specs.Cell as cell|specs.Cell"""
+    m = re.match(r'Rattle\.([a-z_0-9]+)\.(.*)$', mod)
     return m and m.group(1) + '|' + m.group(2)
 
 
@@ -103,7 +103,7 @@ class File:
 class Repo:
     def __init__(self, top):
         self.top = top
-        self.crates = [l.split(':')[0] for l in open(os.path.join(top, 'crates.txt')) if not l.startswith('#') and ':' in l]
+        self.crates = [l.split(':')[0].split()[0] for l in open(os.path.join(top, 'crates.txt')) if not l.startswith('#') and ':' in l]
         self.files, self.sources = {}, {}
         for c in self.crates:
             for sub in ('specs', 'proofs'):
@@ -124,7 +124,7 @@ class Repo:
                 if g and parts[1] in g.names: out.add(g.names[parts[1]])
                 continue
             for n in {t.rstrip(':'), *[p for p in parts if p]}:
-                for q in (n, '_' + n + '_'):
+                for q in (n, '◌' + n + '◌'):
                     if q in f.names: out.add(f.names[q])
                     elif q in f.imports:
                         m, o = f.imports[q]
@@ -156,7 +156,7 @@ class Source:
             m = head.match(L[k])
             if m:
                 j, clause, ens, req, sign = k, None, [], [], []
-                while j < len(L) and L[j].strip() != '{':
+                while j < len(L) and L[j].strip() != '{' and not (clause is None and j > k and L[j - 1].endswith('{')):
                     s = L[j].strip()
                     if s.startswith('ensures'): clause = ens
                     elif s.startswith('requires') or s.startswith('decreases'): clause = req if s.startswith('requires') else []
