@@ -17,6 +17,7 @@ or-true false = refl
 -- a member is among them
 pub among-member : (c : Cell) (cells : List Cell) → Memᴰ c cells → is_among c cells ≡ true
 unfolding is_among
+among-member c [] x' = elim x' [ ]
 among-member c (d ∷ ds) (Memᴰ.head e) = ap (λ (b : Bool). b || is_among c ds) (eq-eqb (raw_of c) (raw_of d) (ap raw_of e))
 among-member c (d ∷ ds) (Memᴰ.tail m) = ap (λ (b : Bool). same_cell c d || b) (among-member c ds m) ∙ or-true (same_cell c d)
 

@@ -1,5 +1,7 @@
 // Rings and shells around a cell, breadth first: the cells at one number of steps after the other. The known cells stand in the workspace in the
 // order of first sight, and that is also the order in which they wait; nothing is written to the output before all is found.
+#![tactic(auto)]
+
 ghost use Rattle.std.specs.Prelude.{◌≡◌, true, false, ◌≤◌, length};
 ghost use Rattle.cell.specs.Bytes.{from_bytes_of};
 ghost use Rattle.general.specs.Changed.{changed};
