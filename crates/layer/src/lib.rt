@@ -1,4 +1,6 @@
 // The calls on layers: keep something of a cell, look it up, list and remove it. Each is said once, over the width of a record.
+#![tactic(auto)]
+
 ghost use Rattle.std.specs.Prelude.{◌≡◌};
 ghost use Rattle.table.specs.Inner.Places.{Wide};
 ghost use Rattle.layer.specs.Calls.{held_in, of_value, of_contains, of_flags, count_in};

@@ -1,0 +1,12 @@
+-- Zeros up to the end of the last whole record within the limit.
+use native.Mathlib.Omega.{arith}
+use borrow.Author.Rules.{rules}
+use Rattle.table.proofs.Laws.{rows-within}
+use Rattle.layer.proofs.Rewritten.{zeros-clear}
+use Rattle.layer.proofs.clear.Goals as goal
+
+pub returns : goal.returns
+returns c =
+    let args = c.args in
+    let room = c.room_for-room in
+    zeros-clear args.width room.result args.table.now _ room.ensures c.zero.ensures
