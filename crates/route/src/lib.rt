@@ -1,4 +1,6 @@
 // The route checker: what keeps the drone off the frame. One pass over the list; the layer is tested once, then each entered cell is found by halves.
+#![tactic(auto)]
+
 ghost use Rattle.std.specs.Prelude.{true, ◌≡◌, ◌≤◌, nat_abs, ◌-ℤ◌, length};
 ghost use Rattle.cell.specs.Lists.{is_list, cells_of};
 ghost use Rattle.table.specs.Records.{rows_of, is_sound, flag_width, layer};
