@@ -1,5 +1,4 @@
 -- The invariant: the cell has the bits of the first i values.
-use borrow.Author.Rules.{rules}
 use mathlib.Core.List.{List}
 use mathlib.Core.Path.{◌≡◌, sym, ap, ◌∙◌}
 use Prim.Native.Nat.{ℕ, ◌+◌, ◌*◌, ◌-◌, ◌/◌, ◌<◌}
@@ -9,7 +8,7 @@ use Rattle.bech32m.specs.declared.Place.TheVariants.{Nowhere}
 use Rattle.bech32m.specs.Checksum.{value_of}
 use Rattle.label.specs.Label.{label_width, unknown_at}
 use Rattle.refusal.specs.Refusals.{raw_of, cell_of}
-use Rattle.label.proofs.Values.{Gathered, gathered_none, gathered-more, gathered-fits, gathered-all-fits, gathered-all, known-below}
+use Rattle.label.proofs.Values.{gathered_none, gathered-more, gathered-fits, gathered-all-fits, gathered-all, known-below}
 use Rattle.label.proofs.cell_in.Goals as goal
 
 -- the value that a turn takes is below 32

@@ -1,14 +1,10 @@
 -- The invariant: the values from place i on are written, and the others are those of the rest.
-use borrow.Author.Rules.{rules}
 use mathlib.Core.Path.{refl, ◌∙◌}
-use mathlib.Core.List.{◌++◌}
 use Prim.Native.Nat.{◌-◌}
 use native.Mathlib.Omega.{arith}
-use lib.ListN.{drop, replicate}
-use Rattle.refusal.specs.Refusals.{raw_of}
-use Rattle.bech32m.specs.Checksum.{digits}
+use lib.ListN.{replicate}
 use Rattle.label.specs.Label.{data_width}
-use Rattle.label.proofs.Data.{Written, written_last, written-more, written_all}
+use Rattle.label.proofs.Data.{written_last, written-more, written_all}
 use Rattle.label.proofs.data_of.Goals as goal
 
 pub loop-i-preserved : goal.loop-i-preserved

@@ -1,8 +1,6 @@
 -- The three lowest bits of the higher word are the highest of the lower.
-use borrow.Author.Rules.{rules}
 use native.Mathlib.Omega.{arith}
 use Rattle.refusal.specs.Refusals.{raw_of}
-use Rattle.label.proofs.Shifts.{down-three}
 use Rattle.label.proofs.eighth.Goals as goal
 
 pub returns : goal.returns

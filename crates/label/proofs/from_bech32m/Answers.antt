@@ -1,8 +1,6 @@
 -- Place by place, as the definition has them.
-use borrow.Author.Rules.{rules}
-use mathlib.Core.Path.{◌≡◌, sym, ◌∙◌}
-use Rattle.bech32m.specs.declared.Place.TheVariants.{Nowhere}
-use Rattle.label.specs.Label.{beginning, unlike_from, mixed_at, unknown_at, read_of}
+use mathlib.Core.Path.{sym, ◌∙◌}
+use Rattle.label.specs.Label.{unknown_at, read_of}
 use Rattle.label.proofs.from_bech32m.Goals as goal
 
 pub read_values-requires : goal.read_values-requires

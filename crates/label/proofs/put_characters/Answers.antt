@@ -1,12 +1,9 @@
 -- The first i of the values' characters stand in the other list.
-use borrow.Author.Rules.{rules}
-use mathlib.Core.List.{map, ◌++◌, List}
-use mathlib.Core.Path.{ap, sym, ◌∙◌}
-use Prim.Native.Nat.{ℕ, ◌+◌, ◌-◌}
+use mathlib.Core.Path.{sym, ◌∙◌}
+use Prim.Native.Nat.{◌-◌}
 use native.Mathlib.Omega.{arith}
-use lib.ListN.{length, take, drop, length-map}
-use lib.Seq.{take_all}
-use Rattle.words.proofs.Copies.{Pasted, pasted-none, pasted-more, pasted-all}
+use lib.ListN.{length-map}
+use Rattle.words.proofs.Copies.{pasted-more}
 use Rattle.bech32m.specs.Checksum.{character_of}
 use Rattle.label.proofs.Putting.{character-at}
 use Rattle.label.proofs.put_characters.Goals as goal

@@ -1,5 +1,4 @@
 -- Test by test, as the definition has them; the padding is that of the last value.
-use borrow.Author.Rules.{rules}
 use borrow.Author.Tests.{eq-eqb, ne_eqb}
 use mathlib.Core.Bool.{Bool, true}
 use mathlib.Core.List.{List, map}

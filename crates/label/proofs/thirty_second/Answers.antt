@@ -1,8 +1,6 @@
 -- The five lowest bits of the higher word are the highest of the lower.
-use borrow.Author.Rules.{rules}
 use native.Mathlib.Omega.{arith}
 use Rattle.refusal.specs.Refusals.{raw_of}
-use Rattle.label.proofs.Shifts.{down-five}
 use Rattle.label.proofs.thirty_second.Goals as goal
 
 pub returns : goal.returns

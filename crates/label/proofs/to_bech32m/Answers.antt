@@ -1,5 +1,4 @@
 -- The beginning, the characters of the values and those of the checksum are put behind one another.
-use borrow.Author.Rules.{rules}
 use Rattle.label.proofs.Putting.{label-together}
 use Rattle.label.proofs.to_bech32m.Goals as goal
 

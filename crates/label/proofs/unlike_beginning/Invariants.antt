@@ -1,15 +1,8 @@
 -- What the characters from place i on answer is what all answer.
-use borrow.Author.Rules.{rules}
-use borrow.Author.Tests.{eq-eqb, ne_eqb}
-use mathlib.Core.Bool.{Bool, cond}
-use mathlib.Core.Path.{◌≡◌, refl, sym, ap, ◌∙◌}
-use Prim.Native.Nat.{ℕ, ◌+◌, ◌-◌}
-use native.Mathlib.Omega.{arith}
-use lib.Dec.{eqb}
-use lib.ListN.{get_or, drop}
-use Rattle.bech32m.specs.declared.Place.TheVariants.{At}
+use mathlib.Core.Path.{◌≡◌}
+use Prim.Native.Nat.{◌-◌}
+use lib.ListN.{drop}
 use Rattle.label.specs.Label.{beginning, unlike_from}
-use Rattle.label.proofs.Unlike.{unlike-none, unlike-end, unlike-more}
 use Rattle.label.proofs.unlike_beginning.Given as goal
 
 abbrev pub invariant-loop-i : goal.invariant-loop-i

@@ -1,5 +1,4 @@
 -- The three highest bits of the lower word are the lowest of the higher, which has room for them.
-use borrow.Author.Rules.{rules}
 use native.Mathlib.Omega.{arith}
 use Rattle.refusal.specs.Refusals.{raw_of}
 use Rattle.label.proofs.Shifts.{room-three, three-behind}
