@@ -1,7 +1,6 @@
 -- The count itself, of a sound layer.
 use mathlib.Core.Path.{sym, ◌∙◌}
 use Rattle.layer.specs.Calls.{count_in}
-use borrow.Author.Rules.{rules}
 use Rattle.layer.proofs.cells.Goals as goal
 
 pub returns-then-is_sound : goal.returns-then-is_sound

@@ -1,7 +1,4 @@
 -- Zeros up to the end of the last whole record within the limit.
-use native.Mathlib.Omega.{arith}
-use borrow.Author.Rules.{rules}
-use Rattle.table.proofs.Laws.{rows-within}
 use Rattle.layer.proofs.Rewritten.{zeros-clear}
 use Rattle.layer.proofs.clear.Goals as goal
 

@@ -1,9 +1,6 @@
 -- Each answer by what is kept, which 32 bits can hold.
-use mathlib.Core.Path.{sym, ap, ◌∙◌}
 use native.Mathlib.Omega.{arith}
-use Rattle.layer.specs.Calls.{of_flags}
 use Rattle.layer.proofs.Answers.{flags-low}
-use borrow.Author.Rules.{rules}
 use Rattle.layer.proofs.get_flags.Goals as goal
 
 pub overflow_cast-result : goal.overflow_cast-result

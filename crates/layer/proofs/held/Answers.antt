@@ -1,6 +1,5 @@
 -- First the cell's bytes, then the table, then the search.
 use mathlib.Core.Path.{sym, ◌∙◌}
-use borrow.Author.Rules.{rules}
 use Rattle.table.proofs.Laws.{found_within}
 use Rattle.layer.proofs.Answers.{on-given, not_sound, found, not_found}
 use Rattle.layer.proofs.held.Goals as goal

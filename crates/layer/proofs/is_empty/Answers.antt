@@ -1,6 +1,5 @@
 -- A sound layer is empty where its count is 0.
 use mathlib.Core.Path.{sym, ◌∙◌}
-use borrow.Author.Rules.{rules}
 use borrow.Author.Tests.{eq-eqb, ne_eqb}
 use Rattle.layer.specs.Changes.{empty_in}
 use Rattle.layer.proofs.is_empty.Goals as goal

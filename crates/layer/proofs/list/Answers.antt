@@ -1,7 +1,6 @@
 -- First the layer, then the room, then the copy.
 use mathlib.Core.Path.{sym, ap, ◌∙◌}
 use native.Mathlib.Omega.{arith}
-use borrow.Author.Rules.{rules}
 use borrow.Author.Tests.{le-leb, lt-leb}
 use lib.ListN.{length}
 use Prim.Native.Nat.{◌*◌}

@@ -1,6 +1,5 @@
 -- The sent list is judged first; the homing one only where that is not accepted.
 use mathlib.Core.Path.{sym, ◌∙◌}
-use borrow.Author.Rules.{rules}
 use Rattle.route.proofs.ChoiceLaws.{sent-chosen, homing-chosen, neither-chosen}
 use Rattle.route.proofs.choice.Goals as goal
 

@@ -1,7 +1,6 @@
 -- The rule decides whether the layer is asked; then what the search found.
 use mathlib.Core.Path.{◌∙◌}
 use native.Mathlib.Omega.{arith}
-use borrow.Author.Rules.{rules}
 use Rattle.table.specs.Records.{rows_of}
 use Rattle.table.proofs.Laws.{flags-word, found_within}
 use Rattle.route.proofs.Shut.{found, missing, not-asked}

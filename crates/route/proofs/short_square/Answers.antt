@@ -9,9 +9,9 @@ use lib.Signed.{non_neg, le_z}
 use mir.Syntax.{w32, w64}
 use mir.Val.{Fits, SFits, to_z, of_z}
 use mir.Facts.{to_z-of_z}
-use Rattle.lattice.proofs.Fields.{wide_fits, widened, difference-fits}
+use Rattle.lattice.proofs.Fields.{widened, difference-fits}
 use Rattle.route.specs.Inner.Near.{short_square}
-use Rattle.route.proofs.Squares.{at-most-five, product, below, above}
+use Rattle.route.proofs.Squares.{at-most-five, product, below}
 use Rattle.route.proofs.short_square.Goals as goal
 
 abbrev read : ℤ → ℤ

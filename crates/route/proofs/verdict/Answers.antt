@@ -1,13 +1,8 @@
 -- The lists, the layer, the rule, in this order; then the cells.
 use mathlib.Core.Path.{◌≡◌, refl, sym, ◌∙◌}
 use mathlib.Core.Bool.{true}
-use native.Mathlib.Omega.{arith}
-use borrow.Author.Rules.{rules}
-use borrow.Author.Tests.{not-true, not-false, eqb-true, lt-ltb, le-ltb}
-use lib.Dec.{eqb}
-use lib.ListN.{length}
-use Rattle.general.proofs.Tests.{three}
-use Rattle.cell.specs.Lists.{is_list, cells_of}
+use borrow.Author.Tests.{not-true, not-false, lt-ltb, le-ltb}
+use Rattle.cell.specs.Lists.{cells_of}
 use Rattle.table.specs.Records.{rows_of, is_sound}
 use Rattle.route.specs.Route.{judge_cells, are_lists}
 use Rattle.route.proofs.Walks.{verdict-tests}

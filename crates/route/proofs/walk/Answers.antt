@@ -2,11 +2,8 @@
 use mathlib.Core.Path.{◌≡◌, refl, sym, ap, ◌∙◌}
 use mathlib.Core.Bool.{Bool, false, cond}
 use Prim.Native.Nat.{◌+◌, ◌-◌}
-use borrow.Author.Rules.{rules}
 use borrow.Author.Tests.{not-true, not-false}
-use lib.IntN.{pos}
-use lib.Ieee.{Float, fin, binary64, add, of_bits}
-use Rattle.refusal.specs.declared.Cell.{Cell}
+use lib.Ieee.{Float, binary64, add}
 use Rattle.table.specs.Records.{rows_of}
 use Rattle.route.specs.Route.{cost_between, is_shut, stopped, judge_walk}
 use Rattle.route.specs.Inner.Walks.{walk_at, walk_of}

@@ -1,16 +1,8 @@
 -- What is left of the walk, from the last cell on at what was paid, is always the whole walk.
-use mathlib.Core.Path.{◌≡◌, refl, sym, ap, ◌∙◌}
-use mathlib.Core.Bool.{Bool, false, cond}
-use Prim.Native.Nat.{◌+◌, ◌-◌}
-use borrow.Author.Rules.{rules}
-use borrow.Author.Tests.{not-true, not-false}
-use lib.IntN.{pos}
-use lib.Ieee.{Float, fin, binary64, add, of_bits}
-use Rattle.refusal.specs.declared.Cell.{Cell}
+use mathlib.Core.Path.{◌≡◌}
+use Prim.Native.Nat.{◌-◌}
 use Rattle.table.specs.Records.{rows_of}
-use Rattle.route.specs.Route.{cost_between, is_shut, stopped, judge_walk}
 use Rattle.route.specs.Inner.Walks.{walk_at, walk_of}
-use Rattle.route.proofs.Walks.{walk_step, walk_end}
 use Rattle.route.proofs.walk.Given as goal
 
 abbrev pub invariant-loop-i : goal.invariant-loop-i

@@ -5,7 +5,6 @@ use Rattle.table.specs.Records.{room_for}
 use Rattle.table.proofs.Laws.{sound-room, rows-within}
 use Rattle.table.proofs.Moved.{ends-within}
 use Rattle.layer.proofs.Rewritten.{no_room, inserted}
-use borrow.Author.Rules.{rules}
 use Rattle.layer.proofs.changes.insert.Goals as goal
 
 pub returns-then-count-room_for : goal.returns-then-count-room_for

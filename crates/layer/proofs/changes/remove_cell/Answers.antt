@@ -4,7 +4,6 @@ use native.Mathlib.Omega.{arith}
 use Rattle.table.specs.Inner.Places.{Stands, IsAt}
 use Rattle.table.proofs.Laws.{sound-room, rows-within, found_within}
 use Rattle.layer.proofs.Rewritten.{removed, not-removed}
-use borrow.Author.Rules.{rules}
 use Rattle.layer.proofs.changes.remove_cell.Goals as goal
 
 pub kept_at-kept-requires-clause-i_in_bounds : goal.kept_at-kept-requires-clause-i_in_bounds

@@ -1,10 +1,6 @@
 -- Each answer by what was kept, which 32 bits can hold.
-use mathlib.Core.Path.{sym, ap}
 use native.Mathlib.Omega.{arith}
-use Rattle.layer.specs.Calls.{of_flags}
-use Rattle.general.proofs.ChangedLaws.{said-as}
 use Rattle.layer.proofs.Rewritten.{removed-low}
-use borrow.Author.Rules.{rules}
 use Rattle.layer.proofs.changes.remove_flags.Goals as goal
 
 pub overflow_cast-result : goal.overflow_cast-result

@@ -1,7 +1,6 @@
 -- First the cell's bytes, then the table, then the change.
 use mathlib.Core.Path.{sym, ◌∙◌}
 use Rattle.layer.proofs.Rewritten.{set_given, by-soundness}
-use borrow.Author.Rules.{rules}
 use Rattle.layer.proofs.changes.set.Goals as goal
 
 pub returns-in-Refused : goal.returns-in-Refused

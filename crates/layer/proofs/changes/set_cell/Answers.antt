@@ -4,7 +4,6 @@ use native.Mathlib.Omega.{arith}
 use Rattle.table.specs.Inner.Places.{Stands}
 use Rattle.table.proofs.Laws.{found_within}
 use Rattle.layer.proofs.Rewritten.{replaced}
-use borrow.Author.Rules.{rules}
 use Rattle.layer.proofs.changes.set_cell.Goals as goal
 
 pub put_record-requires-clause-i_in_bounds : goal.put_record-requires-clause-i_in_bounds
