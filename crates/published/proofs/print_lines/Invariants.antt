@@ -1,0 +1,10 @@
+-- Each turn passes a line and what ends it.
+use Prim.Native.Nat.{◌-◌}
+use lib.ListN.{length}
+use Rattle.published.proofs.print_lines.Given as goal
+
+abbrev pub invariant-loop-at : goal.invariant-loop-at
+invariant-loop-at l = Unit {0}
+
+abbrev pub decreases-loop-at : goal.decreases-loop-at
+decreases-loop-at l = length l.list - l.at
