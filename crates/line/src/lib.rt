@@ -1,4 +1,6 @@
 // The cells along the line between two cells, sample by sample.
+#![tactic(auto)]
+
 ghost use Rattle.std.specs.Prelude.{◌≡◌, true, [], ◌∷◌, ◌≤◌, max, leb, nat_abs, length};
 ghost use Rattle.cell.specs.Cell.{coord_of};
 ghost use Rattle.general.specs.Changed.{changed};
