@@ -1,5 +1,7 @@
 // What a search keeps of its known cells: whether a cell is closed, its g, and the record of the cell before it. What each function answers and
 // leaves is a function of the bytes, whether they hold rows or not.
+#![tactic(auto)]
+
 ghost use Rattle.std.specs.Prelude.{◌≡◌, ◌+◌, ◌≤◌, ◌<◌};
 ghost use Rattle.known.specs.Inner.Known.{Roomy, clear_in};
 ghost use Rattle.known.specs.Inner.Seek.{find_in};
