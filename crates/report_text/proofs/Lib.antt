@@ -7,3 +7,4 @@ pub mod OneAnswer
 pub mod Points
 pub mod Room
 pub mod Copied
+pub mod Blocked
