@@ -1,6 +1,8 @@
 // The search from pop to pop, over lent bytes: the known cells in one buffer, a heap of waiting entries in another. A cell is closed and counted, and
 // its neighbours are reached. What each function answers and leaves is a function of the bytes, whether they hold a search or not; what cannot be
 // searched on is BadWorkspace.
+#![tactic(auto)]
+
 ghost use Rattle.std.specs.Prelude.{◌≡◌, true};
 ghost use Rattle.std.specs.Float.{binary64};
 ghost use Rattle.std.specs.Float.Ieee.{to_bits};

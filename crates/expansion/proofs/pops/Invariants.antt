@@ -1,0 +1,11 @@
+-- The invariant: what is left of the pops leads to the same bytes, and it is not paused. What is left to do falls.
+use Rattle.table.specs.Records.{rows_of}
+use Rattle.expansion.proofs.Left.{left_in}
+use Rattle.expansion.proofs.BytesLoops.{Popping}
+use Rattle.expansion.proofs.pops.Given as goal
+
+abbrev pub invariant-loop-z : goal.invariant-loop-z
+invariant-loop-z l = Popping l.plan (rows_of 20 l.flags l.count) l.until l.initial.workspace l.initial.heap l.initial.size l.workspace l.heap l.size
+
+abbrev pub decreases-loop-z : goal.decreases-loop-z
+decreases-loop-z l = left_in l.plan l.size
