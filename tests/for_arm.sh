@@ -1,29 +1,36 @@
 #!/bin/sh
 # Tries tools/archives and tools/for_arm.py on a crate of its own: structs that C hands over and takes back by value, of 4 to 40 bytes, in registers and on the
-# stack, mixed with small numbers; both archives have to say the same. Then bitcode of shapes that are not known, which has to be refused.
+# stack, mixed with small numbers; both archives have to say the same, and so has the x86-64 bitcode that tools/for_arm.py said anew for Arm.
+# Then bitcode of shapes that are not known, which has to be refused.
 # tests/run calls this at the top of the repository.
 set -eu
 . tools/machine.sh
 tools=$PWD/tools
+kit=$(dirname "$(rt doc)")
 folder=$(mktemp -d)
 trap 'rm -rf "$folder"' EXIT
 cd "$folder"
 mkdir -p crates/by_value/src
-echo 'by_value:' > crates.txt
+echo 'by_value staticlib:' > crates.txt
 cat > crates/by_value/src/lib.rt << 'END'
 // Structs by value, as C hands them over and takes them back.
+#![tactic(auto)]
+
+#[derive(Clone, Copy)]
 #[repr(C)]
 pub struct Four {
     pub low: u16,
     pub high: u16,
 }
 
+#[derive(Clone, Copy)]
 #[repr(C)]
 pub struct Eight {
     pub number: u32,
     pub byte: u8,
 }
 
+#[derive(Clone, Copy)]
 #[repr(C)]
 pub struct Forty {
     pub first: u64,
@@ -34,7 +41,7 @@ pub struct Forty {
     pub last: u64,
 }
 
-#[no_mangle]
+#[unsafe(no_mangle)]
 pub extern "C" fn small(four: Four, byte: u8, eight: Eight, wide: bool) -> u32 {
     if wide {
         eight.number
@@ -45,12 +52,12 @@ pub extern "C" fn small(four: Four, byte: u8, eight: Eight, wide: bool) -> u32 {
     }
 }
 
-#[no_mangle]
+#[unsafe(no_mangle)]
 pub extern "C" fn large(byte: u8, forty: Forty, wide: bool, number: i32) -> Forty {
     Forty { first: forty.last, second: forty.first, third: number, byte: if wide { byte } else { forty.byte }, more: forty.more, last: forty.second }
 }
 
-#[no_mangle]
+#[unsafe(no_mangle)]
 pub extern "C" fn many(a: u64, eight: Eight, b: u8, c: i32, d: u64, e: u8, f: u64, g: u64, h: u64, forty: Forty, i: u8, j: u64) -> Eight {
     if a < b as u64 {
         Eight { number: eight.number, byte: i }
@@ -94,13 +101,53 @@ int main(void)
     return 0;
 }
 END
-"$tools/archives" by_value > said 2>&1 || {
+"$tools/archives" by_value by_value > said 2>&1 || {
     cat said
     echo 'for_arm: the archives are not made'
     exit 1
 }
+
+# The bitcode for x86-64, which the kit hands to a clang: here to ours, in a folder of links to the kit's tools. It is said anew, and compiled in the same words
+# but for the machine.
+mkdir -p toolchain/bin
+ln -s "$kit/toolchain/lib" toolchain/lib
+ln -s "$kit"/toolchain/bin/* toolchain/bin/
+rm toolchain/bin/clang
+cat > toolchain/bin/clang << END
+#!/bin/sh
+for word; do case \$word in *.bc) cp "\$word" '$folder/by_value.bc' && printf '%s\n' "\$@" > '$folder/words' ;; esac; done
+exec '$kit/toolchain/bin/clang' "\$@"
+END
+chmod +x toolchain/bin/clang
+(
+    cd crates/by_value
+    "$kit/bin/rattle" build --crate-name by_value src/lib.rt --extern "std=$kit/rlibs/std.rlib" -L "dependency=$kit/rlibs" \
+        --antt-project "$kit/rattle/logic/antt-project.json" --logic-built "$kit/logic_built" --jobs 1 --links by_value= --crate-type staticlib \
+        --toolchain "$folder/toolchain" --backend llvm --cpu x86-64 --incremental out/incremental -o "$folder/again.a"
+) > said 2>&1 || {
+    cat said
+    echo 'for_arm: the bitcode is not made'
+    exit 1
+}
+"$kit/toolchain/bin/clang" --target=x86_64-unknown-linux-gnu -x ir by_value.bc -O3 -Xclang -disable-llvm-passes -S -emit-llvm -o x86_64.ll
+"$tools/for_arm.py" < x86_64.ll > aarch64.ll
+set --
+while IFS= read -r word; do
+    case $word in
+    --target=x86_64-unknown-linux-gnu) word=--target=aarch64-unknown-linux-gnu ;;
+    -march=x86-64) continue ;;
+    --sysroot=*) continue ;;
+    *.bc) word=aarch64.ll ;;
+    *.o) word=by_value.o ;;
+    esac
+    set -- "$@" "$word"
+done < words
+"$kit/toolchain/bin/clang" "$@" -Wno-override-module -ffp-contract=off
+"$kit/toolchain/bin/llvm-ar" rcsD anew.a by_value.o
 gcc -std=c11 -O2 -Wall -Wextra -Werror -o here try.c "target/staticlib/$machine/libby_value.a"
 "$other_cc" -std=c11 -O2 -Wall -Wextra -Werror -o there try.c "target/staticlib/$other/libby_value.a"
+if [ "$machine" = x86_64 ]; then arm_cc=$other_cc arm_run=$other_run; else arm_cc=gcc arm_run=''; fi
+"$arm_cc" -std=c11 -O2 -Wall -Wextra -Werror -o anew try.c anew.a
 cat > wanted << 'END'
 4000000000 60000 255
 1 1 1 255 1 1
@@ -116,11 +163,14 @@ diff wanted said
 # shellcheck disable=SC2086
 $other_run ./there > said
 diff wanted said
+# shellcheck disable=SC2086
+$arm_run ./anew > said
+diff wanted said
 
 # WHAT SED-SCRIPT: the module so changed has to be refused.
 refuses() {
-    sed "$2" target/archives/by_value/x86_64.ll > changed.ll
-    if cmp -s target/archives/by_value/x86_64.ll changed.ll; then
+    sed "$2" x86_64.ll > changed.ll
+    if cmp -s x86_64.ll changed.ll; then
         echo "for_arm: $1: nothing was changed"
         exit 1
     fi
@@ -146,4 +196,4 @@ refuses 'an instruction that is not known' 's/^start:$/start:\n  fence seq_cst/'
 refuses 'a function of C' 's/^declare .*/declare i32 @puts(ptr)/'
 refuses 'a variable' 's/^source_filename.*/&\n@kept = global i32 0/'
 refuses 'a processor with more' 's/"target-cpu"="x86-64"/& "target-features"="+avx2"/'
-echo 'for_arm: structs by value are the same in both archives; 17 modules of shapes that are not known are refused'
+echo 'for_arm: structs by value are the same in both archives, and in the bitcode said anew; 17 modules of shapes that are not known are refused'

@@ -3,6 +3,8 @@
 
     tools/for_arm.py <X86-64.ll >AARCH64.ll
 
+The kit makes the archive for Arm itself (tools/archives); this is the second way to one, to which tests/for_arm.sh holds it.
+
 The bitcode is what the kit made of a proved crate, as LLVM's text. What is computed stays as it is, line by line. Said anew are
   - the target: its name, data layout and processor;
   - a struct that an exported function gives back in memory: on x86-64 C hands its place over as the first argument and takes it back as the answer, on
@@ -32,12 +34,12 @@ OUTSIDE = re.compile(
     r'$|;|source_filename = "rattle"$'
     rf'|declare \S+ {INTRINSICS}'  # and no function of C's
     r'|@\S+ = (?:private|internal) unnamed_addr constant \[\d+ x i8\] '
-    r'|attributes #\d+ = \{ [^"]*(?:"probe-stack"="inline-asm" )?\}$'
+    r'|attributes #\d+ = \{ [^"]*(?:"probe-stack"="inline-asm" )?(?:"stack-probe-size"="3072" )?\}$'
     r'|!')
 # In functions: these instructions, the rows of a switch, and labels; and nothing that is of one machine, or that lets a compiler round otherwise.
 INSTRUCTIONS = '|'.join((
     'alloca load store getelementptr call br switch ret unreachable select phi icmp fcmp add sub mul udiv sdiv urem srem and or xor shl lshr ashr '
-    'fadd fsub fmul fdiv fneg zext sext trunc bitcast sitofp uitofp fptosi fptoui').split())
+    'fadd fsub fmul fdiv fneg zext sext trunc bitcast sitofp uitofp fptosi fptoui extractvalue insertvalue').split())
 INSIDE = re.compile(rf'(?:|[\w.]+:|  (?:%[\w.]+ = )?(?:{INSTRUCTIONS})(?: .*)?|    i(?:8|16|32|64) -?\d+, label %[\w.]+|  \]|\}})(?: *;.*)?$')
 NOT_INSIDE = re.compile(rf'\basm\b|(?!{INTRINSICS})@llvm\.|\b(?:fast|contract|reassoc|afn|arcp|nnan|ninf|nsz|i128|x86_\w+|fp128|inalloca|sret|byval|musttail|swiftself|va_arg)\b')
 

@@ -19,12 +19,10 @@ other_library=target/staticlib/$other/libtishkolan.a
 other_cc=$other-linux-gnu-gcc
 other_run="qemu-$other -L /usr/$other-linux-gnu"
 
-# Sets `proved_run` to what runs a program that rt has built: these are x86-64 code, under the kit's own C library.
+# Sets `proved_run` to what runs a program that rt has built: these are x86-64 code, for the system's C library.
 find_proved_run() {
-    kit=$(dirname "$(dirname "$(rt doc)")")
-    tools=$kit/on/$machine/toolchain
-    proved_run="$tools/lib/ld-linux-x86-64.so.2 --library-path $tools/lib"
-    [ "$machine" = x86_64 ] || proved_run="$tools/bin/qemu-x86_64 $proved_run"
+    proved_run=''
+    [ "$machine" = x86_64 ] || proved_run=$other_run
 }
 
 # Ends the program NAME where another one is at work in this folder.

@@ -1,4 +1,4 @@
-"""Asks the prover about changed crates: by the incremental check (`rt dev`), in a copy of the tree, so that a change costs seconds.
+"""Asks the prover about changed crates: by the incremental check (`rt check`), in a copy of the tree, so that a change costs seconds.
 
 What the incremental check proves is not the verdict of a gate; what it refuses is refused: it takes over only what it finds unchanged.
 """
@@ -25,7 +25,7 @@ def needs():
         for line in f:
             name, colon, rest = line.split('#')[0].partition(':')
             if colon:
-                out[name.strip()] = rest.split()
+                out[name.split()[0]] = rest.split()
     return out
 
 
@@ -80,8 +80,8 @@ def together(crate, changes):
 
 
 def unproved(said):
-    """the functions that are not proved, but for those that are not because they call such a one"""
-    return set(re.findall(r'^fn (\S+): (?:not proved|no proof)(?!.*; it calls)', said, re.M))
+    """the functions that are not proved, but for those that are not only because they call such a one"""
+    return set(re.findall(r'^fn (\S+): (?:not proved|no proof(?!: it calls))', said, re.M))
 
 
 RUNNING, TREES, ENDED = set(), set(), threading.Event()
@@ -105,12 +105,12 @@ signal.signal(signal.SIGINT, leave)
 
 
 class Tree:
-    """A copy of the tree with what is proved in it. Whoever has one asks one question at a time."""
+    """A copy of the tree. Whoever has one asks one question at a time. rt begins there with what checks in other copies kept of the same crates."""
 
     def __init__(self):
         self.top = tempfile.mkdtemp(prefix='tishkolan-')
         TREES.add(self.top)
-        skip = ['./.git', './target/oracle', './target/must-fail', './target/tests', './target/bench', './target/log']
+        skip = ['./.git', './target', './crates/*/out']
         pack = subprocess.Popen(['tar', *(f'--exclude={s}' for s in skip), '-cf', '-', '.'], cwd=TOP, stdout=subprocess.PIPE)
         subprocess.run(['tar', '-xf', '-'], cwd=self.top, stdin=pack.stdout, check=True)
         if pack.wait():
@@ -126,7 +126,7 @@ class Tree:
     def ask(self, crate):
         """(verdict, what was said, seconds); the verdict is proved, refused, no program, or untold"""
         began = time.time()
-        status, said = self.run(['rt', 'dev', crate])
+        status, said = self.check(crate)
         took = time.time() - began
         if status == 0:
             return 'proved', said, took
@@ -134,10 +134,45 @@ class Tree:
             return ('refused' if re.search(r'^logic=not-proved', said, re.M) else 'no program'), said, took
         return 'untold', said, took
 
-    def run(self, words):
-        """the exit status of a command in this tree, None if it takes too long, and what it said"""
+    def check(self, crate, *words):
+        return self.run(['rt', 'check', *words], self.path(crate, '.'))
+
+    def runs(self, program):
+        """whether a program is proved and, run as `rt ci` runs it, prints what its file stdout has"""
+        at, made = self.path(program, '.'), self.path(program, f'out/{program}')
+        if os.path.exists(made):
+            os.remove(made)
+        self.run(['rt', 'run'], at)  # on no input: it makes the program
+        if not os.path.exists(made):
+            return False
+
+        def file(name):
+            path = self.path(program, name)
+            return open(path, 'rb').read() if os.path.exists(path) else b''
+
+        with tempfile.TemporaryDirectory() as room:
+            data = os.path.join(room, 'data')
+            if os.path.isdir(self.path(program, 'data')):
+                shutil.copytree(self.path(program, 'data'), data)
+            else:
+                os.mkdir(data)
+            try:
+                ran = subprocess.run([made, *file('args').decode().splitlines()], cwd=data, input=file('stdin'), stdout=subprocess.PIPE, timeout=120)
+            except subprocess.TimeoutExpired:
+                return False
+        return (ran.returncode, ran.stdout) == (int(file('status') or 0), file('stdout'))
+
+    def run(self, words, folder):
+        """the exit status of a command in a folder of this tree, None if it takes too long, and what it said"""
         run = subprocess.Popen(
-            words, cwd=self.top, stdout=subprocess.PIPE, stderr=subprocess.STDOUT, encoding='utf-8', errors='replace', start_new_session=True
+            words,
+            cwd=folder,
+            stdin=subprocess.DEVNULL,
+            stdout=subprocess.PIPE,
+            stderr=subprocess.STDOUT,
+            encoding='utf-8',
+            errors='replace',
+            start_new_session=True,
         )
         RUNNING.add(run.pid)
         try:
