@@ -6,6 +6,10 @@ use native.Mathlib.Omega.{arith}
 use borrow.Fn.Kinds.{Dens, ended_of}
 use contract.Lifetimes.{Lfts}
 use denote.Triple.Clauses.{AtExit}
+use denote.RattleType.{RattleType}
+use denote.Param.Laws.{Laws}
+use mir.Syntax.{Dict}
+use Rattle.std.specs.declared.io.traits.Read.{Ghosts}
 use lib.ListN.{length, take, length-take}
 use Rattle.std.specs.Counts.{IsPrefixLen}
 use Rattle.general.specs.Changed.{Changed, changed}
@@ -37,12 +41,14 @@ whole text text' said h (file, (few, told)) =
     (file, (few, (answered, written.1.1)))
 
 -- so a call that is lent 84 bytes or more and that no read failed leaves a whole report
-pub room-enough : (κs : Lfts 1) (a : Dens κs report-kinds.ps) (z : InputAnswer) (e : AtExit (ended_of 1 report-kinds.ps report-kinds.r) κs) → report.Post κs a z e
+pub room-enough : {T : RattleType} (L : Laws T) (read : Ghosts T.Denot) (dict : Dict) (κs : Lfts 3) (a : Dens κs (report-kinds.ps T L)) (z : InputAnswer) (e : AtExit (ended_of 3 (report-kinds.ps T L) (report-kinds.r T L)) κs)
+    → report.Post T L read dict κs a z e
     → (said : WriteAnswer) → z ≡ Reported said → 84 ≤ length a.1.0.now → Whole said e.1.0.now
-room-enough κs a z e met said reported h =
+room-enough L read dict κs a z e met said reported h =
     whole a.1.0.now e.1.0.now said h (subst (λ (x : InputAnswer). Reports x a.1.0.now e.1.0.now) reported met)
 
 -- and one that a read failed leaves the text as it was
-pub unchanged : (κs : Lfts 1) (a : Dens κs report-kinds.ps) (z : InputAnswer) (e : AtExit (ended_of 1 report-kinds.ps report-kinds.r) κs) → report.Post κs a z e
+pub unchanged : {T : RattleType} (L : Laws T) (read : Ghosts T.Denot) (dict : Dict) (κs : Lfts 3) (a : Dens κs (report-kinds.ps T L)) (z : InputAnswer) (e : AtExit (ended_of 3 (report-kinds.ps T L) (report-kinds.r T L)) κs)
+    → report.Post T L read dict κs a z e
     → z ≡ Failed → e.1.0.now ≡ a.1.0.now
-unchanged κs a z e met failed = subst (λ (x : InputAnswer). Reports x a.1.0.now e.1.0.now) failed met
+unchanged L read dict κs a z e met failed = subst (λ (x : InputAnswer). Reports x a.1.0.now e.1.0.now) failed met

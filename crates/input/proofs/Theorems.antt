@@ -5,6 +5,10 @@ use lib.ListN.{length}
 use borrow.Fn.Kinds.{Dens, ended_of}
 use contract.Lifetimes.{Lfts}
 use denote.Triple.Clauses.{AtExit}
+use denote.RattleType.{RattleType}
+use denote.Param.Laws.{Laws}
+use mir.Syntax.{Dict}
+use Rattle.std.specs.declared.io.traits.Read.{Ghosts}
 use Rattle.survey.specs.declared.WriteAnswer.{WriteAnswer}
 use Rattle.input.proofs.report.Kinds as report-kinds
 use Rattle.input.proofs.report.Reads as report
@@ -15,12 +19,14 @@ use Rattle.input.proofs as laws
 
 -- A call that is lent 84 bytes or more, and in which no read failed, leaves a whole report.
 pub room-enough :
-    (κs : Lfts 1) (a : Dens κs report-kinds.ps) (z : InputAnswer) (e : AtExit (ended_of 1 report-kinds.ps report-kinds.r) κs) → report.Post κs a z e
+    {T : RattleType} (L : Laws T) (read : Ghosts T.Denot) (dict : Dict) (κs : Lfts 3) (a : Dens κs (report-kinds.ps T L)) (z : InputAnswer) (e : AtExit (ended_of 3 (report-kinds.ps T L) (report-kinds.r T L)) κs)
+    → report.Post T L read dict κs a z e
     → (said : WriteAnswer) → z ≡ Reported said → 84 ≤ length a.1.0.now → Whole said e.1.0.now
 room-enough = laws.Room.room-enough
 
 -- A call in which a read failed leaves the text as it was.
 pub unchanged :
-    (κs : Lfts 1) (a : Dens κs report-kinds.ps) (z : InputAnswer) (e : AtExit (ended_of 1 report-kinds.ps report-kinds.r) κs) → report.Post κs a z e
+    {T : RattleType} (L : Laws T) (read : Ghosts T.Denot) (dict : Dict) (κs : Lfts 3) (a : Dens κs (report-kinds.ps T L)) (z : InputAnswer) (e : AtExit (ended_of 3 (report-kinds.ps T L) (report-kinds.r T L)) κs)
+    → report.Post T L read dict κs a z e
     → z ≡ Failed → e.1.0.now ≡ a.1.0.now
 unchanged = laws.Room.unchanged
