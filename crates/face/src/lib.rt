@@ -1,4 +1,6 @@
 // What C is told: the refusal with what it carries, and the answer beside it, zero where the call refuses. Each struct is one of include/tishkolan.h.
+#![tactic(auto)]
+
 ghost use Rattle.std.specs.Prelude.{◌≡◌};
 ghost use Rattle.face.specs.Told.{telling, answered, told_of, number_told, no_number, of_number, of_parity, bits_told, no_bits, of_root, of_distance};
 ghost use Rattle.face.specs.Told.{of_coord, of_point};
