@@ -75,7 +75,7 @@ made-ascending none_made up = refl
 made-ascending (one-made e k none_made) up = refl
 made-ascending (one-made {g = first} e k (one-made {g = second} {gs} f j more)) up =
     let both = (and-eq-true_iff (less_cell first.cell second.cell) (ascending (map last_row (second ∷ gs)))).0 up in
-    ap₂ ◌&&◌ (ap₂ less_cell e f ∙ both.0) (made-ascending (one-made f j more) both.1)
+    ap₂ ◌&&◌ (ap₂ less_cell e f ∙ both.0) (made-ascending (one-made {g = second} f j more) both.1)
 
 made-storable : {gs : List Group} {rs : List Row} → GroupsStorable 24 gs → Made gs rs → AllStorable 24 rs
 made-storable no-groups none_made = no_rows
