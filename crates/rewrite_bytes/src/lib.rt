@@ -1,4 +1,6 @@
 // What the program `rewrite` prints, as bytes: of a survey file of before, whose records come in any order, the file that is accepted.
+#![tactic(auto)]
+
 ghost use Rattle.std.specs.Prelude.{◌≡◌};
 ghost use Rattle.general.specs.Changed.{changed};
 ghost use Rattle.rewrite_bytes.specs.Rewrite.{rewrite_in};
