@@ -1,13 +1,13 @@
 """Runs a program that reads standard input: on files, through a pipe in pieces, and where a read or a write fails. The tests of the programs report and rewrite share it.
 """
-import array, contextlib, fcntl, itertools, os, resource, signal, socket, subprocess, tempfile, termios, time
+import array, contextlib, fcntl, itertools, os, resource, socket, subprocess, tempfile, termios, time
 
 # The sizes of the pieces, again and again; the whole at once where there are none.
 PIECES = [(), (1,), (4_095,), (4_096,), (4_097,), (1, 4_095, 2, 4_097, 3, 4_096, 61_441, 7)]
 
 # What a program says on standard error where a read or a write fails, behind its name: the system's word for why stands last.
 READ, WRITE = 'cannot read: ', 'cannot write: '
-DIRECTORY, DESCRIPTOR, RESET, FULL, LARGE = 'Is a directory', 'Bad file descriptor', 'Connection reset by peer', 'No space left on device', 'File too large'
+DIRECTORY, DESCRIPTOR, RESET, FULL, LARGE, BROKEN = 'Is a directory', 'Bad file descriptor', 'Connection reset by peer', 'No space left on device', 'File too large', 'Broken pipe'
 
 
 def shown(got):
@@ -130,11 +130,11 @@ class Program:
                 said = self.ended(self.start(stdin=source, stdout=short, preexec_fn=limit, restore_signals=False))
                 short.seek(0)
                 self.expect(f'an output with room for {room} bytes', (short.read(), *said[1:]), (wanted(file)[:room], self.says(WRITE, LARGE), 0))
-        # The system ends a program that writes to a pipe that nobody reads.
+        # Rattle's programs go on where they write to a pipe that nobody reads: the write fails.
         reader, writer = os.pipe()
         os.close(reader)
         with holding(file) as source:
-            self.expect('a pipe that nobody reads', self.ended(self.start(stdin=source, stdout=writer)), (b'', '', -signal.SIGPIPE))
+            self.expect('a pipe that nobody reads', self.ended(self.start(stdin=source, stdout=writer)), (b'', self.says(WRITE, BROKEN), 0))
         os.close(writer)
 
     def say(self):
