@@ -1,7 +1,9 @@
 -- Nothing waits; the first entry is of no known cell, of a closed one, or of one that is closed now and entered.
-use mathlib.Core.Path.{sym, ◌∙◌}
+use mathlib.Core.Path.{◌≡◌, sym, ◌∙◌}
+use mathlib.Core.Bool.{false}
 use Rattle.table.specs.Records.{rows_of}
 use Rattle.known.proofs.Seek.{found_below}
+use Rattle.search_rows.specs.Inner.Rows.{row_in}
 use Rattle.search.proofs.Costs.{cost-small}
 use Rattle.expansion.proofs.BytesLaws.{advance-none, advance-by, popped-skip, popped-bad, popped-all, popped-entered}
 use Rattle.expansion.proofs.BytesKept.{fits-closed}
@@ -28,9 +30,10 @@ returns-then-is_closed c =
 pub returns-then-sizes : goal.returns-then-sizes
 returns-then-sizes c =
     let args = c.args in
+    let unclosed : (row_in args.workspace.now args.plan.known c.in-At.row).closed ≡ false = cc in
     let rows = rows_of 20 args.flags.now args.count in
     sym (advance-by args.plan rows args.workspace.now args.heap.now args.sizes _ _ _ (omega (arith, c.if-sizes-eq0.false)) c.pop-first.ensures.0 c.pop-first.ensures.1 (rw c.in-At.is at c.look.ensures)
-    ∙ popped-all args.plan rows args.workspace.now _ args.sizes _ (sym c.is_closed.ensures ∙ c.if-is_closed.false) c.if-sizes.true)
+    ∙ popped-all args.plan rows args.workspace.now _ args.sizes _ unclosed c.if-sizes.true)
 
 pub g_at-g-requires-clause-i_lt_room : goal.g_at-g-requires-clause-i_lt_room
 g_at-g-requires-clause-i_lt_room c =
@@ -41,9 +44,10 @@ g_at-g-requires-clause-i_lt_room c =
 pub returns-then-g-gt-INFINITY : goal.returns-then-g-gt-INFINITY
 returns-then-g-gt-INFINITY c =
     let args = c.args in
+    let unclosed : (row_in args.workspace.now args.plan.known c.in-At.row).closed ≡ false = cc in
     let rows = rows_of 20 args.flags.now args.count in
     sym (advance-by args.plan rows args.workspace.now args.heap.now args.sizes _ _ _ (omega (arith, c.if-sizes-eq0.false)) c.pop-first.ensures.0 c.pop-first.ensures.1 (rw c.in-At.is at c.look.ensures)
-    ∙ popped-bad args.plan rows args.workspace.now _ args.sizes _ (sym c.is_closed.ensures ∙ c.if-is_closed.false) c.if-sizes.false _ c.g_at-g.ensures c.if-g-gt-INFINITY.true)
+    ∙ popped-bad args.plan rows args.workspace.now _ args.sizes _ unclosed c.if-sizes.false _ c.g_at-g.ensures c.if-g-gt-INFINITY.true)
 
 pub close_at-requires-clause-i_lt_room : goal.close_at-requires-clause-i_lt_room
 close_at-requires-clause-i_lt_room c =
@@ -61,10 +65,11 @@ enter-requires c =
 pub returns-else-g-gt-INFINITY : goal.returns-else-g-gt-INFINITY
 returns-else-g-gt-INFINITY c =
     let args = c.args in
+    let unclosed : (row_in args.workspace.now args.plan.known c.in-At.row).closed ≡ false = cc in
     let rows = rows_of 20 args.flags.now args.count in
     c.enter.ensures
     ∙ sym (advance-by args.plan rows args.workspace.now args.heap.now args.sizes _ _ _ (omega (arith, c.if-sizes-eq0.false)) c.pop-first.ensures.0 c.pop-first.ensures.1 (rw c.in-At.is at c.look.ensures)
-    ∙ popped-entered args.plan rows args.workspace.now _ args.sizes _ (sym c.is_closed.ensures ∙ c.if-is_closed.false) c.if-sizes.false _ c.g_at-g.ensures _ c.if-g-gt-INFINITY.false c.close_at.ensures)
+    ∙ popped-entered args.plan rows args.workspace.now _ args.sizes _ unclosed c.if-sizes.false _ c.g_at-g.ensures _ c.if-g-gt-INFINITY.false c.close_at.ensures)
 
 pub returns-in-Nowhere : goal.returns-in-Nowhere
 returns-in-Nowhere c =
