@@ -5,6 +5,7 @@ use Prim.Native.Nat.{ℕ}
 use lib.ListN.{replicate}
 use base.Fml.{GName}
 use contract.Lifetimes.{Lfts}
+use denote.Bor.{Bor}
 use denote.Ref.{MutBor}
 use Rattle.general.specs.Changed.{saying}
 use Rattle.layer.proofs.Points.{first-answered, second-refused}
@@ -19,18 +20,21 @@ abbrev flagged : ℕ → ℕ → List ℕ
 flagged b bits = replicate 16 b ++ (0 ∷ 0 ∷ 0 ∷ bits ∷ [])
 
 -- wherever the table and the cell are lent
-module _ (lifetimes : Lfts 2) (table cell : ℕ × ℕ) (g h : GName) where
+module _ (lifetimes : Lfts 2) (table cell : ℕ × ℕ) (g : GName) where
   abbrev lent : ℕ × ℕ → GName → List ℕ → MutBor (List ℕ)
   lent ptr name bytes = record { ref_ptr = ptr; ghost_name = name; now = bytes }
+
+  abbrev shown : ℕ × ℕ → List ℕ → Bor (List ℕ)
+  shown ptr bytes = record { ref_ptr = ptr; now = bytes }
 
   -- C is told 0 and one cell
   pub answered-call : FlagsSet
   answered-call =
       record {
         lifetimes = lifetimes;
-        arguments = (lent table g (replicate 20 0), (0, (lent cell h (replicate 16 7), (1, tt))));
+        arguments = (lent table g (replicate 20 0), (0, (shown cell (replicate 16 7), (1, tt))));
         told = telling_count 0 0 1;
-        exit = (lent table g (flagged 7 1), (0, (lent cell h (replicate 16 7), (1, tt))));
+        exit = (lent table g (flagged 7 1), (0, (shown cell (replicate 16 7), (1, tt))));
         meets = sym (ap (saying (of_count 0)) first-answered);
       }
 
@@ -39,9 +43,9 @@ module _ (lifetimes : Lfts 2) (table cell : ℕ × ℕ) (g h : GName) where
   refused-call =
       record {
         lifetimes = lifetimes;
-        arguments = (lent table g (flagged 7 1), (1, (lent cell h (replicate 16 8), (1, tt))));
+        arguments = (lent table g (flagged 7 1), (1, (shown cell (replicate 16 8), (1, tt))));
         told = telling_count 10 4 1;
-        exit = (lent table g (flagged 7 1), (1, (lent cell h (replicate 16 8), (1, tt))));
+        exit = (lent table g (flagged 7 1), (1, (shown cell (replicate 16 8), (1, tt))));
         meets = sym (ap (saying (of_count 1)) second-refused);
       }
 

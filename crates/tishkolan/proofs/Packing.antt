@@ -82,9 +82,9 @@ fields-after-new call reading typed nought same =
     ∙ read-fields (new_frame call) (new_resolution call) (new_place call) (new_exponent call) (new_flags call) m.cell back
 
 -- fields that are told with 0 are those of the 16 bytes
-told_of : (l : List ℕ) (f : FieldsTold) → f ≡ fields_told l → f.refusal.number ≡ 0 → (c : Cell) × (from_bytes_of l ≡ Is c) × (f ≡ fields_of c)
+told-of : (l : List ℕ) (f : FieldsTold) → f ≡ fields_told l → f.refusal.number ≡ 0 → (c : Cell) × (from_bytes_of l ≡ Is c) × (f ≡ fields_of c)
 unfolding fields_told
-told_of l f p nought = by-cell (from_bytes_of l) refl p
+told-of l f p nought = by-cell (from_bytes_of l) refl p
   where
     by-cell : (a : CellAnswer) → from_bytes_of l ≡ a → f ≡ by_cell no_fields fields_of a → (c : Cell) × (from_bytes_of l ≡ Is c) × (f ≡ fields_of c)
     by-cell (Refused r) e q = absurd (refused-number r (sym (ap (λ (z : FieldsTold). z.refusal.number) q) ∙ nought))
@@ -103,7 +103,7 @@ pub new-after-fields : (reading : CellFields) (call : CellNew) → Bytes (fields
 unfolding new_told coord_of
 new-after-fields reading call bytes nought clear point again room =
     let l = fields_bytes reading in
-    let f = told_of l reading.told reading.meets nought in
+    let f = told-of l reading.told reading.meets nought in
     let c = f.0 in
     let told = f.2 in
     let one = read_cell l c f.1 in

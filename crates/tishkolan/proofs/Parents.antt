@@ -1,7 +1,7 @@
 -- Where a call of C tells a point's parent and another lists the children of that parent, the point is among the eight places that are listed. Over their own contracts, by those of the
 -- lattice's calls.
 use mathlib.Core.Path.{◌≡◌, refl, sym, ap, subst, ◌∙◌}
-use mathlib.Core.List.{List, ◌∷◌, ◌++◌, flat_map, Memᴰ}
+use mathlib.Core.List.{List, [], ◌∷◌, ◌++◌, flat_map, Memᴰ}
 use Prim.Native.Nat.{ℕ, suc, ◌*◌, ◌<◌}
 use native.Mathlib.Omega.{arith}
 use lib.IntN.{ℤ}
@@ -29,6 +29,7 @@ place-told (coord.At c) t told e = λ i. coord.At (at (sym told i).x (sym told i
 -- a place of a list stands in its numbers
 triple-at : {c : Coord} (l : List Coord) (rest : List ℤ) → Memᴰ c l → (k : ℕ) × (k < length l) × (take 3 (drop (3 * k) (triples l ++ rest)) ≡ triple c)
 unfolding flat_map
+triple-at {c} [] rest m = elim m [ ]
 triple-at {c} (d ∷ l) rest (Memᴰ.head e) = (0, omega arith, ap triple (sym e))
 triple-at {c} (d ∷ l) rest (Memᴰ.tail m) =
     let h = triple-at l rest m in

@@ -1,4 +1,6 @@
 // The C face: every public call, on numbers and byte slices. The crate tishkolan_c exports them, and include/tishkolan.h declares what stands here.
+#![tactic(auto)]
+
 pub mod aggregates;
 pub mod cells;
 pub mod flags;

@@ -1,0 +1,11 @@
+-- The invariant: the bytes of the first i cells stand at the front.
+use Prim.Native.Nat.{◌-◌}
+use Rattle.cell.specs.Bytes.{cell_bytes}
+use Rattle.tishkolan.proofs.Writing.{Written}
+use Rattle.tishkolan.proofs.cells.put_neighbors.Given as goal
+
+abbrev pub invariant-loop-i : goal.invariant-loop-i
+invariant-loop-i l = Written 14 16 cell_bytes l.cells l.initial.out l.out l.i
+
+abbrev pub decreases-loop-i : goal.decreases-loop-i
+decreases-loop-i l = 14 - l.i

@@ -1,0 +1,59 @@
+-- The bytes are read; what is found is told by the tests that led there: the outcome, then the room.
+use mathlib.Core.Path.{◌≡◌, ap, ◌∙◌}
+use mathlib.Core.List.{List}
+use Prim.Native.Nat.{ℕ, ◌*◌}
+use native.Mathlib.Omega.{arith}
+use lib.ListN.{length}
+use Rattle.cell.specs.declared.CellAnswer.{CellAnswer}
+use Rattle.cell.specs.declared.Children.{Children}
+use Rattle.cell.specs.Cell.{children_of}
+use Rattle.cell.specs.Bytes.{cell_bytes, from_bytes_of, by_cell}
+use Rattle.cell.proofs.Stored.{length-cell_bytes}
+use Rattle.face.specs.Told.{Filled, filled, fill}
+use Rattle.face.specs.Cells.{unfilled, cells_bytes, children_told}
+use Rattle.tishkolan.proofs.Given.{on-cell}
+use Rattle.tishkolan.proofs.Found.{children-long}
+use Rattle.tishkolan.proofs.Writing.{length-flat_map, fill-refused, fill-no-room, fill-front}
+use Rattle.tishkolan.proofs.cells.tishkolan_cell_children.Goals as goal
+use Rattle.tishkolan.proofs.cells.tishkolan_cell_children.Goals.{After-get_children-found}
+
+abbrev put : List ℕ → Children → Filled ℕ
+put out n = fill n.outcome (cells_bytes n.cells) out
+
+by-cell : (l out : List ℕ) {a b : CellAnswer} → a ≡ from_bytes_of l → a ≡ b → by_cell (unfilled out) (λ d. put out (children_of d)) b ≡ children_told l out
+unfolding children_told
+by-cell l out = on-cell (unfilled out) (λ d. put out (children_of d)) l
+
+by-found : (c : After-get_children-found) → put c.args.out.now c.get_children-found.result ≡ children_told c.args.cell.now c.args.out.now
+by-found c =
+    let out = c.args.out.now in
+    ap (put out) c.get_children-found.ensures ∙ by-cell _ out c.from_bytes-given.ensures c.in-Is.is
+
+long : (c : After-get_children-found) → length (cells_bytes c.get_children-found.result.cells) ≡ 128
+long c =
+    length-flat_map cell_bytes 16 length-cell_bytes c.get_children-found.result.cells
+    ∙ ap (λ (n : Children). 16 * length n.cells) c.get_children-found.ensures
+    ∙ ap (λ (n : ℕ). 16 * n) (children-long _)
+
+pub returns-then-out-lt-CHILDREN_WIDTH : goal.returns-then-out-lt-CHILDREN_WIDTH
+returns-then-out-lt-CHILDREN_WIDTH c =
+    let out = c.args.out.now in
+    let size : length (cells_bytes c.get_children-found.result.cells) ≡ 128 = long (goal.at.returns-then-out-lt-CHILDREN_WIDTH c).After-get_children-found in
+    fill-no-room _ out c.in-Answered.is (omega arith) c.told-then-out-lt-CHILDREN_WIDTH.ensures ∙ by-found (goal.at.returns-then-out-lt-CHILDREN_WIDTH c).After-get_children-found
+
+pub returns-in-Refused : goal.returns-in-Refused
+returns-in-Refused c =
+    let out = c.args.out.now in
+    (λ i. filled (c.told.ensures i) out) ∙ by-cell _ out c.from_bytes-given.ensures c.in-Refused.is
+
+pub returns-in-Refused-outcome : goal.returns-in-Refused-outcome
+returns-in-Refused-outcome c =
+    let out = c.args.out.now in
+    fill-refused _ out c.in-Refused-outcome.is c.told-in-Refused-outcome.ensures ∙ by-found (goal.at.returns-in-Refused-outcome c).After-get_children-found
+
+pub returns-else-out-lt-CHILDREN_WIDTH : goal.returns-else-out-lt-CHILDREN_WIDTH
+returns-else-out-lt-CHILDREN_WIDTH c =
+    let out = c.args.out.now in
+    let size : length (cells_bytes c.get_children-found.result.cells) ≡ 128 = long (goal.at.returns-else-out-lt-CHILDREN_WIDTH c).After-get_children-found in
+    fill-front _ out c.in-Answered.is (omega arith) c.answered.ensures c.put_children.ensures
+    ∙ by-found (goal.at.returns-else-out-lt-CHILDREN_WIDTH c).After-get_children-found

@@ -1,0 +1,11 @@
+-- The invariant: the numbers of the first i places stand at the front.
+use Prim.Native.Nat.{◌-◌}
+use Rattle.face.specs.Points.{triple}
+use Rattle.tishkolan.proofs.Writing.{Written}
+use Rattle.tishkolan.proofs.points.put_children.Given as goal
+
+abbrev pub invariant-loop-i : goal.invariant-loop-i
+invariant-loop-i l = Written 8 3 triple l.places l.initial.out l.out l.i
+
+abbrev pub decreases-loop-i : goal.decreases-loop-i
+decreases-loop-i l = 8 - l.i
