@@ -8,8 +8,7 @@ use Prim.Native.Nat.{ℕ, ◌<◌, ◌≤◌}
 use lib.ListN.{length}
 use Rattle.words.specs.Word.{big, word}
 use Rattle.replay.specs.Inner.Searches.{record_bytes}
-use Rattle.replay.proofs.searches.record_bytes.Statement.{statement}
-use Rattle.replay.proofs.searches.record_bytes.Tie as tie
+use Rattle.replay.proofs.searches.record_bytes.Goals as goal
 
 none-whole : (l : List ℕ) → length l < 64 → record_bytes l ≡ 0
 unfolding record_bytes
@@ -23,18 +22,15 @@ up-to-body : (l : List ℕ) → 64 ≤ length l → word big 2 l 6 ≤ length l 
 unfolding record_bytes
 up-to-body l long within = rw (le-ltb (length l) 64 long, le-ltb (length l) (word big 2 l 6) within)
 
-returns : tie.Need-returns
-returns c = (sym (none-whole c.before.before.args.list.now (search rules)), search rules)
+pub returns-then-list-lt64 : goal.returns-then-list-lt64
+returns-then-list-lt64 c = (sym (none-whole c.args.list.now (search rules)), search rules)
 
-returns-2 : tie.Need-returns-2
-returns-2 c =
-    let l = c.before.before.before.before.args.list.now in
-    (sym (none-behind l (search rules) (omega (arith, c.before.read16-big.ensures.0))), search rules)
+pub returns-then-list-body : goal.returns-then-list-body
+returns-then-list-body c =
+    let l = c.args.list.now in
+    (sym (none-behind l (search rules) (omega (arith, c.read16_big-body.ensures.0))), search rules)
 
-returns-3 : tie.Need-returns-3
-returns-3 c =
-    let l = c.before.before.before.before.args.list.now in
-    (c.before.read16-big.ensures.0 ∙ sym (up-to-body l (search rules) (omega (arith, c.before.read16-big.ensures.0))), search rules)
-
-pub record-bytes-spec : {M : Type 1} → statement M
-record-bytes-spec = tie.close (tie.spec returns (λ c κs. search rules) (λ c. search rules) returns-2 returns-3)
+pub returns : goal.returns
+returns c =
+    let l = c.args.list.now in
+    (c.read16_big-body.ensures.0 ∙ sym (up-to-body l (search rules) (omega (arith, c.read16_big-body.ensures.0))), search rules)
