@@ -52,14 +52,6 @@ fn read_whole(from: &mut impl Read, buffer: &mut [u8]) -> io::Result<usize>
     Ok(done)
 }
 
-// The front of a file, as much as the buffer holds.
-fn read_file(rt: &HostRuntime, path: &str, buffer: &mut [u8]) -> io::Result<usize>
-    ensures { ReadsAtMost result buffer.new }
-{
-    let mut file = fs::open(rt, path)?;
-    read_whole(&mut file, buffer)
-}
-
 // Puts an argument at the front of the buffer. One that is longer, or not there, names no file.
 fn argument_text<'a>(rt: &HostRuntime, argument: usize, buffer: &'a mut [u8]) -> &'a str {
     match rt.arg(argument, buffer) {
@@ -68,13 +60,17 @@ fn argument_text<'a>(rt: &HostRuntime, argument: usize, buffer: &'a mut [u8]) ->
     }
 }
 
+// A list that cannot be opened is named on standard error, with the system's words for why; one that cannot be read ends the program with that error.
 fn replay(rt: &HostRuntime, argument: usize, what: &str) -> io::Result<()> {
     let mut name = [0u8; 4096];
     let path = argument_text(rt, argument, &mut name);
     let mut list = [0u8; 65536];
-    match read_file(rt, path, &mut list) {
-        Ok(size) => report(rt, &list[..size], argument, what),
-        Err(why) => eprintln!(rt; "{path}: {why}"),
+    match fs::open(rt, path) {
+        Ok(mut file) => {
+            let size = read_whole(&mut file, &mut list)?;
+            report(rt, &list[..size], argument, what)
+        }
+        Err(why) => input::say_failure(rt, path, &why),
     }
 }
 
