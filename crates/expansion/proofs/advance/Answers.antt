@@ -1,6 +1,9 @@
 -- Nothing waits; the first entry is of no known cell, of a closed one, or of one that is closed now and entered.
 use mathlib.Core.Path.{◌≡◌, sym, ◌∙◌}
-use mathlib.Core.Bool.{false}
+use mathlib.Core.Bool.{Bool, true, false}
+use mathlib.Core.Path.{refl}
+use Prim.Native.Nat.{◌<◌, ◌≤◌}
+use mir.Val.{bool_byte}
 use Rattle.table.specs.Records.{rows_of}
 use Rattle.known.proofs.Seek.{found_below}
 use Rattle.search_rows.specs.Inner.Rows.{row_in}
@@ -9,6 +12,15 @@ use Rattle.expansion.proofs.BytesLaws.{advance-none, advance-by, popped-skip, po
 use Rattle.expansion.proofs.BytesKept.{fits-closed}
 use native.Mathlib.Omega.{arith}
 use Rattle.expansion.proofs.advance.Goals as goal
+
+-- a test of a closed row, however it is written
+positive : (x : Bool) → 0 < bool_byte x → x ≡ true
+positive true h = refl
+positive false h = absurd (omega (arith, h))
+
+nought : (x : Bool) → bool_byte x ≤ 0 → x ≡ false
+nought true h = absurd (omega (arith, h))
+nought false h = refl
 
 pub returns-then-sizes-eq0 : goal.returns-then-sizes-eq0
 returns-then-sizes-eq0 c =
@@ -24,12 +36,14 @@ pub returns-then-is_closed : goal.returns-then-is_closed
 returns-then-is_closed c =
     let args = c.args in
     let rows = rows_of 20 args.flags.now args.count in
+    let shut : c.is_closed.result ≡ true = first_of (cc, grind (arith, positive)) in
     sym (advance-by args.plan rows args.workspace.now args.heap.now args.sizes _ _ _ (omega (arith, c.if-sizes-eq0.false)) c.pop-first.ensures.0 c.pop-first.ensures.1 (rw c.in-At.is at c.look.ensures)
-    ∙ popped-skip args.plan rows args.workspace.now _ args.sizes _ (sym c.is_closed.ensures ∙ c.if-is_closed.true))
+    ∙ popped-skip args.plan rows args.workspace.now _ args.sizes _ (sym c.is_closed.ensures ∙ shut))
 
 pub returns-then-sizes : goal.returns-then-sizes
 returns-then-sizes c =
     let args = c.args in
+    let opened : c.is_closed.result ≡ false = first_of (cc, grind (arith, nought)) in
     let unclosed : (row_in args.workspace.now args.plan.known c.in-At.row).closed ≡ false = cc in
     let rows = rows_of 20 args.flags.now args.count in
     sym (advance-by args.plan rows args.workspace.now args.heap.now args.sizes _ _ _ (omega (arith, c.if-sizes-eq0.false)) c.pop-first.ensures.0 c.pop-first.ensures.1 (rw c.in-At.is at c.look.ensures)
@@ -44,6 +58,7 @@ g_at-g-requires-clause-i_lt_room c =
 pub returns-then-g-gt-INFINITY : goal.returns-then-g-gt-INFINITY
 returns-then-g-gt-INFINITY c =
     let args = c.args in
+    let opened : c.is_closed.result ≡ false = first_of (cc, grind (arith, nought)) in
     let unclosed : (row_in args.workspace.now args.plan.known c.in-At.row).closed ≡ false = cc in
     let rows = rows_of 20 args.flags.now args.count in
     sym (advance-by args.plan rows args.workspace.now args.heap.now args.sizes _ _ _ (omega (arith, c.if-sizes-eq0.false)) c.pop-first.ensures.0 c.pop-first.ensures.1 (rw c.in-At.is at c.look.ensures)
@@ -65,6 +80,7 @@ enter-requires c =
 pub returns-else-g-gt-INFINITY : goal.returns-else-g-gt-INFINITY
 returns-else-g-gt-INFINITY c =
     let args = c.args in
+    let opened : c.is_closed.result ≡ false = first_of (cc, grind (arith, nought)) in
     let unclosed : (row_in args.workspace.now args.plan.known c.in-At.row).closed ≡ false = cc in
     let rows = rows_of 20 args.flags.now args.count in
     c.enter.ensures
