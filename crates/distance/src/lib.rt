@@ -17,32 +17,18 @@ pub enum DistanceAnswer {
     Refused(Refusal),
 }
 
-// The 32-bit numbers.
-const LEAST_NUMBER: i64 = -2147483648;
-
-const MOST_NUMBER: i64 = 2147483647;
-
 // Whether the first less the second, on one axis, is a 32-bit number.
 fn difference_fits(a: i32, b: i32) -> bool
     ensures { result ≡ difference_fits a b }
 {
-    let d = (a as i64) - (b as i64);
-    if LEAST_NUMBER <= d {
-        return d <= MOST_NUMBER;
-    }
-    false
+    a.checked_sub(b).is_some()
 }
 
 // The same on all three axes.
 pub fn differences_fit(a: Coord, b: Coord) -> bool
     ensures { result ≡ differences_fit a b }
 {
-    if difference_fits(a.x, b.x) {
-        if difference_fits(a.y, b.y) {
-            return difference_fits(a.z, b.z);
-        }
-    }
-    false
+    difference_fits(a.x, b.x) && difference_fits(a.y, b.y) && difference_fits(a.z, b.z)
 }
 
 // The square of the difference on one axis.

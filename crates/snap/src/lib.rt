@@ -54,21 +54,14 @@ fn scaled(p: Point, resolution: u8) -> Point
 fn in_range(v: f64) -> bool
     ensures { result ≡ in_range v }
 {
-    if -2147483646.0 <= v {
-        return v <= 2147483646.0;
-    }
-    false
+    -2147483646.0 <= v && v <= 2147483646.0
 }
 
+#[tactic(auto, unfolding(crate::specs::Snap::all_in_range))]
 fn all_in_range(p: Point) -> bool
     ensures { result ≡ all_in_range p }
 {
-    if in_range(p.x) {
-        if in_range(p.y) {
-            return in_range(p.z);
-        }
-    }
-    false
+    in_range(p.x) && in_range(p.y) && in_range(p.z)
 }
 
 // The even candidate: twice the whole number nearest to half of a coordinate.
@@ -167,13 +160,7 @@ pub fn to_physical(c: Coord) -> PointAnswer
 pub fn snap_bits(x: u64, y: u64, z: u64, resolution: u8) -> CoordAnswer
     ensures { result ≡ snap_of (point (of_bits binary64 x) (of_bits binary64 y) (of_bits binary64 z)) resolution }
 {
-    if float::is_nan(x) {
-        return CoordAnswer::Refused(Refusal::OutOfRange);
-    }
-    if float::is_nan(y) {
-        return CoordAnswer::Refused(Refusal::OutOfRange);
-    }
-    if float::is_nan(z) {
+    if float::is_nan(x) || float::is_nan(y) || float::is_nan(z) {
         return CoordAnswer::Refused(Refusal::OutOfRange);
     }
     physical_to_lattice(
