@@ -56,12 +56,6 @@ pub after-samples : (l : Line) (last : Cell) (i : ℕ) → l.steps < i → cells
 unfolding cells_from cells_after
 after-samples l last i h = let none : l.steps + 1 - i ≡ 0 = omega arith in ap (cells_after l last i) none
 
-pub end-last : (l : Line) (last : Cell) (i : ℕ) → l.steps < i → same_cell last l.end ≡ true → cells_from l last i ≡ []
-end-last l last i h e = after-samples l last i h ∙ ap (λ (t : Bool). cond t [] (l.end ∷ [])) e
-
-pub end-appended : (l : Line) (last : Cell) (i : ℕ) → l.steps < i → same_cell last l.end ≡ false → cells_from l last i ≡ l.end ∷ []
-end-appended l last i h e = after-samples l last i h ∙ ap (λ (t : Bool). cond t [] (l.end ∷ [])) e
-
 -- ---- how many cells there are
 
 length-ending : (l : Line) (last : Cell) → length (ending l last) ≤ 1

@@ -1,4 +1,3 @@
 pub mod Laws
-mod Samples
 mod OneAnswer
 pub mod Split

@@ -1,7 +1,7 @@
 // The cells along the line between two cells, sample by sample.
 #![tactic(auto)]
 
-ghost use Rattle.std.specs.Prelude.{◌≡◌, true, [], ◌∷◌, ◌≤◌, max, leb, nat_abs, length};
+ghost use Rattle.std.specs.Prelude.{◌≡◌, true, [], ◌∷◌, ◌≤◌, leb, length};
 ghost use Rattle.cell.specs.Cell.{coord_of};
 ghost use Rattle.general.specs.Changed.{changed};
 ghost use Rattle.cell_list.specs.Listing.{cells, room_in, cells_laid, listed_in};
@@ -91,24 +91,20 @@ fn fits(line: Line, room: usize) -> bool
 {
     let mut last = line.start;
     let mut left = room;
-    let mut i = 1;
-    while i <= line.steps {
+    for i in 1..=line.steps {
         if left == 0 {
             return false;
         }
-        match sampled(line, last, i) {
-            Sample::Dropped => {}
-            Sample::New(c) => {
-                last = c;
-                left -= 1;
-            }
+        if let Sample::New(c) = sampled(line, last, i) {
+            last = c;
+            left -= 1;
         }
-        i += 1;
     }
     if cell::same(last, line.end) {
-        return 1 <= left;
+        1 <= left
+    } else {
+        2 <= left
     }
-    2 <= left
 }
 
 // The list at the front of a buffer that holds it, and how many cells it has.
@@ -121,23 +117,18 @@ fn write(line: Line, output: &mut [u8]) -> usize
     cell_list::put(output, 0, line.start);
     let mut last = line.start;
     let mut count = 1;
-    let mut i = 1;
-    while i <= line.steps {
-        match sampled(line, last, i) {
-            Sample::Dropped => {}
-            Sample::New(c) => {
-                cell_list::put(output, count, c);
-                last = c;
-                count += 1;
-            }
+    for i in 1..=line.steps {
+        if let Sample::New(c) = sampled(line, last, i) {
+            cell_list::put(output, count, c);
+            last = c;
+            count += 1;
         }
-        i += 1;
     }
-    if cell::same(last, line.end) {
-        return count;
+    if !cell::same(last, line.end) {
+        cell_list::put(output, count, line.end);
+        count += 1;
     }
-    cell_list::put(output, count, line.end);
-    count + 1
+    count
 }
 
 // The same; where the list cannot be longer, without counting.
@@ -145,10 +136,7 @@ fn has_room(line: Line, room: usize) -> bool
     requires { line.steps ≤ most_steps }
     ensures { result ≡ leb (length (cells_along line)) room }
 {
-    if line.steps + 2 <= room as u64 {
-        return true;
-    }
-    fits(line, room)
+    line.steps + 2 <= room as u64 || fits(line, room)
 }
 
 // The list into a buffer. Its room is tested before a cell is written, so that a refusal leaves the buffer as it was.
@@ -191,26 +179,14 @@ fn differences(from: Coord, to: Coord) -> Coord
     }
 }
 
-fn absolute(d: i32) -> u64
-    ensures { (result ≡ nat_abs d) × (result ≤ 2147483648) }
-{
-    lattice::absolute(d as i64) as u64
-}
-
-fn larger(a: u64, b: u64) -> u64
-    ensures { result ≡ max a b }
-{
-    if a < b {
-        return b;
-    }
-    a
-}
-
 // Twice the largest difference.
 fn steps(by: Coord) -> u64
     ensures { (result ≡ steps_of by) × (result ≤ most_steps) }
 {
-    2 * larger(absolute(by.x), larger(absolute(by.y), absolute(by.z)))
+    let x = by.x.unsigned_abs();
+    let y = by.y.unsigned_abs();
+    let z = by.z.unsigned_abs();
+    2 * x.max(y).max(z) as u64
 }
 
 // The line between two cells of one parity each that are not the same, or CoordOverflow.

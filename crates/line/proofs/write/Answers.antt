@@ -1,104 +1,85 @@
--- The cells that are laid and those still to come are the whole list, from sample to sample. What stood in the buffer before the start was put is not at hand in the loop, so that this is
--- said of any list of which the start makes what the loop began with.
-use mathlib.Core.Path.{◌≡◌, refl, sym, subst, transport, ◌∙◌}
+-- The cells that are laid and those still to come are the whole list, from sample to sample.
+use mathlib.Core.Path.{◌≡◌, refl, sym, ◌∙◌}
 use mathlib.Core.List.{List, [], ◌∷◌}
+use mathlib.Core.Bool.{false}
 use Prim.Native.Nat.{ℕ, ◌+◌, ◌≤◌}
 use native.Mathlib.Omega.{arith}
-use lib.ListN.{length}
+use Rattle.cell.specs.Cell.{same_cell}
 use Rattle.refusal.specs.declared.Cell.{Cell}
 use Rattle.cell_list.specs.Inner.Listing.{cell_put}
-use Rattle.cell_list.specs.Listing.{cells_laid}
 use Rattle.cell_list.proofs.Writing.{Written, nothing_written, rest-same, next-written, next-within, all-counted, all_laid}
 use Rattle.line.specs.declared.Line.{Line}
 use Rattle.line.specs.declared.Sample.TheVariants.{New, Dropped}
-use Rattle.line.specs.Line.{sampled, cells_along}
-use Rattle.line.proofs.Laws.{cells_from, along-from, after-dropped, after-new, end-last, end-appended}
+use Rattle.line.specs.Line.{sampled, ending, cells_along}
+use Rattle.line.proofs.Laws.{cells_from, along-from, after-dropped, after-new, after-samples}
 use Rattle.line.proofs.write.Goals as goal
-use Rattle.line.proofs.write.Goals.{in-Dropped, in-New}
+use Rattle.line.proofs.write.Goals.{After-same, else-loop-i-test, then-loop-i-test+else-i-i-end, in-New, in_default}
 
--- ---- one sample
-
-module _ (line : Line) (entry now : List ℕ) (last : Cell) (count i : ℕ) {now' : List ℕ} {last' : Cell} {count' : ℕ} (within : i ≤ line.steps) (written : Written (cells_along line) entry now (cells_from line last i) count) where
+module _ (line : Line) (entry now : List ℕ) (last : Cell) (count i : ℕ) {now' : List ℕ} {last' : Cell} {count' : ℕ} (within : i ≤ line.steps) (before : Written (cells_along line) entry now (cells_from line last i) count) where
   dropped-written : sampled line last i ≡ Dropped → now' ≡ now → last' ≡ last → count' ≡ count → Written (cells_along line) entry now' (cells_from line last' (i + 1)) count'
-  dropped-written e p q r =
-      let same = rest-same (cells_along line) entry now (cells_from line last i) count written (after-dropped line last i within e) in
-      transport (λ j. Written (cells_along line) entry (sym p j) (cells_from line (sym q j) (i + 1)) (sym r j)) same
+  dropped-written e p q r = rw (p, q, r) (rest-same (cells_along line) entry now (cells_from line last i) count before (after-dropped line last i within e))
 
   new-written : {c : Cell} → sampled line last i ≡ New c → now' ≡ cell_put now count c → last' ≡ c → count' ≡ count + 1 → Written (cells_along line) entry now' (cells_from line last' (i + 1)) count'
-  new-written e p q r =
-      let more = next-written (cells_along line) entry now (cells_from line last i) count written (after-new line last i within e) in
-      transport (λ j. Written (cells_along line) entry (sym p j) (cells_from line (sym q j) (i + 1)) (sym r j)) more
-
--- none is left
-finished : (line : Line) (entry now : List ℕ) (rest : List Cell) (count : ℕ) → Written (cells_along line) entry now rest count → rest ≡ [] → (count ≡ length (cells_along line)) × (now ≡ cells_laid (cells_along line) entry)
-finished line entry now rest count written none = (all-counted (cells_along line) entry now rest count written none, all_laid (cells_along line) entry now rest count written none)
-
--- ---- the loop
-
--- the start is laid, and what comes next
-begun : (line : Line) (entry now : List ℕ) → now ≡ cell_put entry 0 line.start → Written (cells_along line) entry now (cells_from line line.start 1) 1
-begun line entry now e =
-    let first = next-written (cells_along line) entry entry (cells_along line) 0 (nothing_written (cells_along line) entry) (along-from line) in
-    subst (λ (l : List ℕ). Written (cells_along line) entry l (cells_from line line.start 1) 1) (sym e) first
-
--- the whole list with the end
-ended : (line : Line) (entry now now' : List ℕ) (last : Cell) (count i : ℕ) → Written (cells_along line) entry now (cells_from line last i) count → cells_from line last i ≡ line.end ∷ [] → now' ≡ cell_put now count line.end → Written (cells_along line) entry now' [] (count + 1)
-ended line entry now now' last count i written rest e =
-    subst (λ (l : List ℕ). Written (cells_along line) entry l [] (count + 1)) (sym e) (next-written (cells_along line) entry now (cells_from line last i) count written rest)
+  new-written e p q r = rw (p, q, r) (next-written (cells_along line) entry now (cells_from line last i) count before (after-new line last i within e))
 
 pub put-requires : goal.put-requires
-put-requires c = next-within (cells_along c.args.line) c.args.output.now c.args.output.now (cells_along c.args.line) 0 (nothing_written (cells_along c.args.line) c.args.output.now) c.requires.line_len_bound (along-from c.args.line)
+put-requires c = let a = c.args in next-within (cells_along a.line) a.output.now a.output.now (cells_along a.line) 0 (nothing_written (cells_along a.line) a.output.now) c.requires.line_len_bound (along-from a.line)
 
 pub loop-i-init : goal.loop-i-init
-loop-i-init c entry e = begun c.args.line entry c.put.new.output e
+loop-i-init c =
+    let a = c.args in
+    rw c.put.ensures (next-written (cells_along a.line) a.output.now a.output.now (cells_along a.line) 0 (nothing_written (cells_along a.line) a.output.now) (along-from a.line))
 
 pub put-requires-in-New : goal.put-requires-in-New
 put-requires-in-New c =
     let a = c.args in
     let here = c.loop-i in
-    next-within (cells_along a.line) a.output.now here.output (cells_from a.line here.last here.i) here.count (here.invariant a.output.now c.put.ensures) c.requires.line_len_bound
-    (after-new a.line here.last here.i (omega arith) (sym c.sampled.ensures ∙ c.in-New.is))
+    next-within (cells_along a.line) a.output.now here.output (cells_from a.line here.last here.i) here.count here.invariant c.requires.line_len_bound (after-new a.line here.last here.i (omega arith) (sym c.in-New.ensures))
 
 pub loop-i-preserved : goal.loop-i-preserved
-loop-i-preserved c entry e =
+loop-i-preserved c =
+    let a = c.args in
     let here = c.loop-i in
-    let line = c.args.line in
-    let within : here.i ≤ line.steps = omega arith in
-    let told = c.sampled in
     elim c.match-sampled.branch [
-      | in-Dropped w ↦ dropped-written line entry here.output here.last here.count here.i within (here.invariant entry e) (sym told.ensures ∙ w.in-Dropped.is) w.output-is w.last-is w.count-is
-      | in-New w ↦ new-written line entry here.output here.last here.count here.i within (here.invariant entry e) (sym told.ensures ∙ w.in-New.is) (w.output-is ∙ w.put-in-New.ensures) w.last-is w.count-is
+      | in-New w ↦ new-written a.line a.output.now here.output here.last here.count here.i (omega arith) here.invariant (sym w.in-New.ensures) (w.output-is ∙ w.put-in-New.ensures) w.last-is w.count-is
+      | in_default w ↦ dropped-written a.line a.output.now here.output here.last here.count here.i (omega arith) here.invariant (sym w.in_default.ensures) w.output-is w.last-is w.count-is
     ]
 
-pub returns-then-same-clause-value : goal.returns-then-same-clause-value
-returns-then-same-clause-value c =
+-- behind the last sample the end is left, if not last
+written : (c : After-same) → Written (cells_along c.args.line) c.args.output.now c.loop-i-test.output (ending c.args.line c.loop-i-test.last) c.loop-i-test.count
+written c =
     let a = c.args in
     let here = c.loop-i in
-    (finished a.line a.output.now here.output (cells_from a.line here.last here.i) here.count (here.invariant a.output.now c.put.ensures) (end-last a.line here.last here.i (omega arith) (sym c.same.ensures ∙ c.if-same.true))).0
+    elim c.loop-i-test.branch [
+      | else-loop-i-test w ↦ rw (w.output-is, w.last-is, w.count-is) (rest-same (cells_along a.line) a.output.now here.output (cells_from a.line here.last here.i) here.count here.invariant (after-samples a.line here.last here.i (omega arith)))
+      | then-loop-i-test+else-i-i-end w ↦
+          let at = w.match-sampled in
+          let more : Written (cells_along a.line) a.output.now at.output (cells_from a.line at.last (here.i + 1)) at.count =
+          elim w.match-sampled.branch [
+            | in-New v ↦ new-written a.line a.output.now here.output here.last here.count here.i (omega arith) here.invariant (sym v.in-New.ensures) (v.output-is ∙ v.put-in-New.ensures) v.last-is v.count-is
+            | in_default v ↦ dropped-written a.line a.output.now here.output here.last here.count here.i (omega arith) here.invariant (sym v.in_default.ensures) v.output-is v.last-is v.count-is
+          ] in
+          rw (w.output-is, w.last-is, w.count-is) (rest-same (cells_along a.line) a.output.now at.output (cells_from a.line at.last (here.i + 1)) at.count more (after-samples a.line at.last (here.i + 1) (omega arith)))
+    ]
 
-pub returns-then-same-clause-output_after : goal.returns-then-same-clause-output_after
-returns-then-same-clause-output_after c =
-    let a = c.args in
-    let here = c.loop-i in
-    (finished a.line a.output.now here.output (cells_from a.line here.last here.i) here.count (here.invariant a.output.now c.put.ensures) (end-last a.line here.last here.i (omega arith) (sym c.same.ensures ∙ c.if-same.true))).1
+-- the end is left
+not_same : (c : After-same) → false ≡ same_cell c.loop-i-test.last c.args.line.end → Written (cells_along c.args.line) c.args.output.now c.loop-i-test.output (c.args.line.end ∷ []) c.loop-i-test.count
+not_same c e = rw (← e) at (written c)
 
-pub put-requires-2 : goal.put-requires-2
-put-requires-2 c =
+pub put-requires-then-not-same : goal.put-requires-then-not-same
+put-requires-then-not-same c =
     let a = c.args in
-    let here = c.loop-i in
-    next-within (cells_along a.line) a.output.now here.output (cells_from a.line here.last here.i) here.count (here.invariant a.output.now c.put.ensures) c.requires.line_len_bound
-    (end-appended a.line here.last here.i (omega arith) (sym c.same.ensures ∙ c.if-same.false))
+    let here = c.loop-i-test in
+    next-within (cells_along a.line) a.output.now here.output (a.line.end ∷ []) here.count (not_same (goal.at.put-requires-then-not-same c).After-same c.if-not-same.ensures) c.requires.line_len_bound refl
 
-pub returns-clause-value : goal.returns-clause-value
-returns-clause-value c =
+pub returns-then-not-same : goal.returns-then-not-same
+returns-then-not-same c =
     let a = c.args in
-    let here = c.loop-i in
-    let rest = end-appended a.line here.last here.i (omega arith) (sym c.same.ensures ∙ c.if-same.false) in
-    (finished a.line a.output.now c.put-2.new.output [] (here.count + 1) (ended a.line a.output.now here.output c.put-2.new.output here.last here.count here.i (here.invariant a.output.now c.put.ensures) rest c.put-2.ensures) refl).0
+    let here = c.loop-i-test in
+    let all = next-written (cells_along a.line) a.output.now here.output (a.line.end ∷ []) here.count (not_same (goal.at.returns-then-not-same c).After-same c.if-not-same.ensures) refl in
+    record { value = all-counted _ _ _ _ _ all refl; output_after = c.put-then-not-same.ensures ∙ all_laid _ _ _ _ _ all refl }
 
-pub returns-clause-output_after : goal.returns-clause-output_after
-returns-clause-output_after c =
-    let a = c.args in
-    let here = c.loop-i in
-    let rest = end-appended a.line here.last here.i (omega arith) (sym c.same.ensures ∙ c.if-same.false) in
-    (finished a.line a.output.now c.put-2.new.output [] (here.count + 1) (ended a.line a.output.now here.output c.put-2.new.output here.last here.count here.i (here.invariant a.output.now c.put.ensures) rest c.put-2.ensures) refl).1
+pub returns-else-not-same : goal.returns-else-not-same
+returns-else-not-same c =
+    let all = rw (← c.if-not-same.ensures) at (written (goal.at.returns-else-not-same c).After-same) in
+    record { value = all-counted _ _ _ _ _ all refl; output_after = all_laid _ _ _ _ _ all refl }
