@@ -38,8 +38,7 @@ pub fn room_for(table: &[u8], width: usize) -> usize
     requires { Wide width }
     ensures { result ≡ room_for width table.now }
 {
-    let n = table.len() / width;
-    if n < MOST_CELLS { n } else { MOST_CELLS }
+    MOST_CELLS.min(table.len() / width)
 }
 
 // The index of the first record whose cell is not above that of the one before it, and `count` where there is none; each cell is read once.
@@ -52,15 +51,12 @@ pub fn first_fall(table: &[u8], width: usize, count: usize) -> usize
         return 0;
     }
     let mut last = cell::read_at(table, 0);
-    let mut i = 0;
-    while i + 1 < count {
-        let next = cell::read_at(table, width * (i + 1));
-        if cell::less(last, next) {
-            last = next;
-            i += 1;
-        } else {
-            return i + 1;
+    for i in 1..count {
+        let next = cell::read_at(table, width * i);
+        if !cell::less(last, next) {
+            return i;
         }
+        last = next;
     }
     count
 }
@@ -70,10 +66,7 @@ pub fn is_sound(table: &[u8], width: usize, count: usize) -> bool
     requires { Wide width }
     ensures { result ≡ is_sound width table.now count }
 {
-    if count > room_for(table, width) {
-        return false;
-    }
-    first_fall(table, width, count) == count
+    count <= room_for(table, width) && first_fall(table, width, count) == count
 }
 
 // A cell's place among the records of a sound layer, by halves.

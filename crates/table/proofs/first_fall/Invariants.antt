@@ -1,12 +1,11 @@
--- `last` is the cell of record i, and each record before it is below the next one.
-use mathlib.Core.Path.{◌≡◌}
-use Prim.Native.Nat.{ℕ, ◌-◌, ◌<◌}
+-- `last` is the cell of the record before i, and up to there each record is below the next one.
+use Rattle.std.proofs.Common.{◌≡◌, ℕ, suc, ◌-◌, ◌<◌}
 use Rattle.table.specs.Records.{row_at}
 use Rattle.table.proofs.Laws.{Rises}
 use Rattle.table.proofs.first_fall.Given as goal
 
 abbrev pub invariant-loop-i : goal.invariant-loop-i
-invariant-loop-i l = (l.i < l.count) × (l.last ≡ (row_at l.width l.table l.i).cell) × ((k : ℕ) → k < l.i → Rises l.width l.table k)
-
-abbrev pub decreases-loop-i : goal.decreases-loop-i
-decreases-loop-i l = l.count - l.i
+invariant-loop-i l = record {
+  read : l.last ≡ (row_at l.width l.table (l.i - 1)).cell;
+  rising : (k : ℕ) → suc k < l.i → Rises l.width l.table k;
+}
