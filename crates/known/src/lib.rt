@@ -72,7 +72,7 @@ pub fn find(workspace: &[u8], room: usize, count: usize, c: Cell) -> Found
     let mut bound = count;
     loop {
         // One test for both: a link of 0, which is none, is far above the bound.
-        let i = std::num::wrapping_sub_usize(link, 1);
+        let i = link.wrapping_sub(1);
         if i >= bound {
             return Found::Nowhere;
         }
@@ -107,23 +107,19 @@ pub fn clear(workspace: &mut [u8], room: usize)
     requires { Roomy workspace.old room }
     ensures { workspace.new ≡ clear_in workspace.old room }
 {
-    words::bytes::zero(workspace, 0, HEAD_WIDTH * room);
+    workspace[..HEAD_WIDTH * room].fill(0);
 }
 
 // A room is named from 1 to 65,536.
 pub fn is_room(n: usize) -> bool
     ensures { result ≡ is_room n }
 {
-    if 1 <= n {
-        return n <= MOST_ROOM;
-    }
-    false
+    (1..=MOST_ROOM).contains(&n)
 }
 
 // Zeros in the whole of a workspace, when the call that it was lent to returns.
 pub fn wipe(workspace: &mut [u8])
     ensures { workspace.new ≡ zeros workspace.old }
 {
-    let size = workspace.len();
-    words::bytes::zero(workspace, 0, size);
+    workspace.fill(0);
 }

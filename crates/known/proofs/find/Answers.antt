@@ -19,7 +19,7 @@ returns-then-i-bound c =
     let args = c.args in
     let here = c.loop-bound in
     let left = here.invariant.1 in
-    sym (left.2 ∙ seek-none args.workspace.now args.room args.c here.bound here.link left.0 (λ some under. omega (arith, c.if-i-bound.true, c.wrapping_sub_usize-i.ensures)))
+    sym (left.2 ∙ seek-none args.workspace.now args.room args.c here.bound here.link left.0 (λ some under. omega (arith, c.if-i-bound.true)))
 
 pub returns-then-same : goal.returns-then-same
 returns-then-same c =
