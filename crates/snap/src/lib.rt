@@ -157,6 +157,7 @@ pub fn to_physical(c: Coord) -> PointAnswer
 }
 
 // Snap by the coordinates' bit patterns: every pattern is taken, and a NaN's is out of range.
+#[tactic(auto, using(crate::proofs::Answers::nan_x, crate::proofs::Answers::nan_y, crate::proofs::Answers::nan_z))]
 pub fn snap_bits(x: u64, y: u64, z: u64, resolution: u8) -> CoordAnswer
     ensures { result ≡ snap_of (point (of_bits binary64 x) (of_bits binary64 y) (of_bits binary64 z)) resolution }
 {
