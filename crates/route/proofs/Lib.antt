@@ -5,7 +5,6 @@ pub mod StepLaws
 pub mod Walks
 pub mod AcceptedLaws
 pub mod DemandLaws
-mod Squares
 mod Shut
 mod Parities
 pub mod OneAnswer

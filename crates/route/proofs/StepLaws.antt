@@ -160,5 +160,7 @@ step-tests a b s =
     rw (s.one-parity, kin, neighbor-is-near (coord_of a) (coord_of b) s.near)
 
 -- the place of a, the lower bits of b, the square of the distance: no neighbour is made
-pub step-tested : (a b : Cell) → Words b → step_tests a b ≡ is_step a b
-step-tested a b w = agree (step_tests a b) (is_step a b) (λ e. is-step a b w (tests-step a b e)) (λ e. step-tests a b (step_is a b w e))
+pub step_tested : (a b : Cell) → b.high < 18446744073709551616 → b.low < 18446744073709551616 → is_step a b ≡ step_tests a b
+step_tested a b high low =
+    let words : Words b = record { high_word = high; low-word = low } in
+    agree (is_step a b) (step_tests a b) (λ e. step-tests a b (step_is a b words e)) (λ e. is-step a b words (tests-step a b e))

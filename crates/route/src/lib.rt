@@ -17,37 +17,28 @@ use table::Position;
 fn short_square(a: i32, b: i32) -> u32
     ensures { (result ≡ short_square (nat_abs (b -ℤ a))) × (result ≤ 5) }
 {
-    let d = (b as i64) - (a as i64);
-    if -2 <= d {
-        if d <= 2 {
-            return (d * d) as u32;
-        }
-    }
-    5
+    let d = b.abs_diff(a);
+    if d <= 2 { d * d } else { 5 }
 }
 
 // Whether two places are as far apart as neighbours are.
+#[tactic(auto, unfolding(crate::specs::Inner::Near::is_near))]
 fn is_near(a: Coord, b: Coord) -> bool
     ensures { result ≡ is_near a b }
 {
     let s = short_square(a.x, b.x) + short_square(a.y, b.y) + short_square(a.z, b.z);
-    if 3 <= s {
-        return s <= 4;
-    }
-    false
+    3 <= s && s <= 4
 }
 
 // Whether the second cell is one of the first one's neighbours: a plain cell, so that its lower bits are the frame and the resolution alone.
+#[tactic(auto, using(crate::proofs::StepLaws::step_tested))]
 pub fn is_step(a: Cell, b: Cell) -> bool
     ensures { result ≡ is_step a b }
 {
     let here = cell::coord(a);
-    if lattice::is_valid_lattice_point(here) {
-        if b.low % 4294967296 == a.low % 65536 {
-            return is_near(here, cell::coord(b));
-        }
-    }
-    false
+    lattice::is_valid_lattice_point(here)
+        && b.low % 4294967296 == a.low % 65536
+        && is_near(here, cell::coord(b))
 }
 
 const ROOT_THREE: u64 = 0x3FFB_B67A_E858_4CAA;
@@ -112,16 +103,15 @@ fn arrive(last: Cell, paid: f64, goal: Cell, cost: u64) -> u32
 }
 
 // The verdict on a list that begins at its start, step by step; no cell is tested before it is entered.
+#[tactic(auto, using(crate::proofs::Walks::walk_step, crate::proofs::Walks::walk_end))]
 fn walk(route: &[u8], goal: Cell, cost: u64, flags: &[u8], count: usize, rule: u32) -> u32
     requires cell_width_in_bounds { cell_width ≤ length route.now }
     requires count_value { is_sound flag_width flags.now count ≡ true }
     ensures { result ≡ judge_walk goal cost (walk_of route.now rule (rows_of flag_width flags.now count)) }
 {
-    let cells = route.len() / cell::CELL_WIDTH;
     let mut last = cell::read_at(route, 0);
     let mut paid = 0.0;
-    let mut i = 1;
-    while i < cells {
+    for i in 1..route.len() / cell::CELL_WIDTH {
         let next = cell::read_at(route, cell::CELL_WIDTH * i);
         if !is_step(last, next) {
             return NOT_A_NEIGHBOR;
@@ -131,7 +121,6 @@ fn walk(route: &[u8], goal: Cell, cost: u64, flags: &[u8], count: usize, rule: u
         }
         paid += step_cost(last, next);
         last = next;
-        i += 1;
     }
     arrive(last, paid, goal, cost)
 }
@@ -163,12 +152,9 @@ fn judge(
 fn are_lists(route: &[u8], start: &[u8], goal: &[u8]) -> bool
     ensures { result ≡ are_lists route.now start.now goal.now }
 {
-    if route.len() % cell::CELL_WIDTH == 0 {
-        if start.len() == cell::CELL_WIDTH {
-            return goal.len() == cell::CELL_WIDTH;
-        }
-    }
-    false
+    route.len() % cell::CELL_WIDTH == 0
+        && start.len() == cell::CELL_WIDTH
+        && goal.len() == cell::CELL_WIDTH
 }
 
 // The verdict on a route with its two ends and its claimed cost, in a flag layer under a rule: 0 where it is accepted, else the number of the first failing.
