@@ -91,21 +91,20 @@ module _ (key : ℕ → ℕ) where
     pub least-of-four : (t : Bool) → t ≡ ltb (key c) (key b) → b + (c - b) * bool_byte t ≡ first_least key a 3
     least-of-four t e = one-first a (a + 4) _ _ (by-test t e) (first-least a 3)
 
-  pub one-alone : (a : ℕ) → first_least key a 0 ≡ a
+  pub one-alone : (a n : ℕ) → n ≡ 0 → first_least key a n ≡ a
   unfolding first_least
-  one-alone a = refl
+  one-alone a n e = rw e
 
   pub least-to : (a n : ℕ) → first_least key a n ≤ a + n
   least-to a n = omega (arith, (first-least a n).to)
 
   -- one place more
-  pub next-is-less : (a n j : ℕ) → j ≡ a + suc n → ltb (key j) (key (first_least key a n)) ≡ true → first_least key a (suc n) ≡ j
+  pub next-least : (a j : ℕ) → a < j → first_least key a (j + 1 - (a + 1)) ≡ cond (ltb (key j) (key (first_least key a (j - (a + 1))))) j (first_least key a (j - (a + 1)))
   unfolding first_least
-  next-is-less a n j e h = let t = ap (λ (k : ℕ). ltb (key k) (key (first_least key a n))) (sym e) ∙ h in ap (λ (t : Bool). cond t (a + suc n) (first_least key a n)) t ∙ sym e
-
-  pub next-is-more : (a n j : ℕ) → j ≡ a + suc n → ltb (key j) (key (first_least key a n)) ≡ false → first_least key a (suc n) ≡ first_least key a n
-  unfolding first_least
-  next-is-more a n j e h = let t = ap (λ (k : ℕ). ltb (key k) (key (first_least key a n))) (sym e) ∙ h in ap (λ (t : Bool). cond t (a + suc n) (first_least key a n)) t
+  next-least a j h =
+      let more : j + 1 - (a + 1) ≡ suc (j - (a + 1)) = omega arith in
+      let there : a + suc (j - (a + 1)) ≡ j = omega arith in
+      rw (more, there)
 
   children : (size i n : ℕ) → 4 * i + 1 + n < size → n ≤ 3 → ((j : ℕ) → j < size → j ≤ 4 * i + 4 → j ≤ 4 * i + 1 + n) → LeastChild key size i (first_least key (4 * i + 1) n)
   children size i n room few all =

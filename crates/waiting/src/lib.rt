@@ -135,12 +135,10 @@ fn least_child(heap: &[u8], size: usize, i: usize) -> usize
         return least_of_four(heap, first);
     }
     let mut least = first;
-    let mut j = first + 1;
-    while j < size {
+    for j in first + 1..size {
         if less_at(heap, j, least) {
             least = j;
         }
-        j += 1;
     }
     least
 }
