@@ -1,5 +1,5 @@
 -- `last` is the cell of the record before i, and up to there each record is below the next one.
-use Rattle.std.proofs.Common.{◌≡◌, sym, ap, ◌∙◌, ℕ, suc, ◌+◌, ◌-◌, ◌*◌, ◌≤◌, Bool, List, arith}
+use Rattle.std.proofs.Common.{◌≡◌, sym, ◌∙◌, ℕ, suc, ◌+◌, ◌-◌, ◌*◌, ◌≤◌, Bool, List, arith, rules}
 use borrow.Author.Count.{below_more}
 use Rattle.refusal.specs.declared.Cell.{Cell}
 use Rattle.cell.specs.Cell.{less_cell}
@@ -7,10 +7,6 @@ use Rattle.cell.specs.Bytes.{cell_at}
 use Rattle.table.specs.Records.{row_at}
 use Rattle.table.proofs.Laws.{Rises, row-cell, all-rise, falls}
 use Rattle.table.proofs.first_fall.Goals as goal
-
--- a cell that was read where a record begins is the record's
-read : (w : ℕ) (l : List ℕ) (i : ℕ) {p : ℕ} {a : Cell} → p ≡ w * i → a ≡ cell_at l p → a ≡ (row_at w l i).cell
-read w l i {a = a} e d = d ∙ ap (cell_at l) e ∙ sym (row-cell w l i)
 
 -- a cell that was read behind another one is compared with it as their records' are
 compared : (w : ℕ) (l : List ℕ) (i : ℕ) {a b : Cell} {t : Bool} → 1 ≤ i → a ≡ (row_at w l (i - 1)).cell → b ≡ cell_at l (w * i) → less_cell a b ≡ t → less_cell (row_at w l (i - 1)).cell (row_at w l (suc (i - 1))).cell ≡ t
@@ -21,7 +17,7 @@ returns-then-count-eq0 c = omega (arith, all-rise c.args.width c.args.table.now 
 
 pub loop-i-init : goal.loop-i-init
 loop-i-init c = record {
-  read = read c.args.width c.args.table.now 0 (omega arith) c.read_at-last.ensures;
+  read = rw row-cell (search rules);
   rising = λ k h. absurd (omega arith);
 }
 
@@ -41,7 +37,7 @@ loop-i-preserved c =
     let here = c.loop-i in
     let rise = compared args.width args.table.now here.i here.auto.i here.invariant.read c.read_at-next.ensures (sym c.less.ensures ∙ c.if-not-less.false) in
     record {
-      read = let same : here.i ≡ here.i + 1 - 1 = omega arith in read args.width args.table.now (here.i + 1 - 1) (ap (λ (k : ℕ). args.width * k) same) c.read_at-next.ensures;
+      read = let same : here.i + 1 - 1 ≡ here.i = omega arith in rw (same, row-cell) (search rules);
       rising = λ k h. below_more (Rises args.width args.table.now) (here.i - 1) (λ j b. here.invariant.rising j (omega arith)) rise k (omega arith);
     }
 
