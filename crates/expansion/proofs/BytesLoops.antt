@@ -7,8 +7,9 @@ use native.Mathlib.Numerals.{add-one}
 use native.Mathlib.Omega.{arith}
 use lib.Dec.{leb}
 use lib.ListN.{length, get_or, drop}
-use lib.Seq.{drop-cons, drop-length}
+use lib.Seq.{drop-cons}
 use borrow.Author.Tests.{le-leb, leb-true}
+use Rattle.std.proofs.lemmas.List.{at_drop_all}
 use Rattle.refusal.specs.declared.Cell.{Cell}
 use Rattle.refusal.specs.declared.Refusal.{Refusal}
 use Rattle.refusal.specs.declared.Refusal.TheVariants.{BadWorkspace}
@@ -25,24 +26,20 @@ use Rattle.expansion.proofs.BytesKept.{Kept, fits_kept, relax-kept, Popped, adva
 
 -- the first i neighbours were looked at: to look at the others from here is to look at all from the start
 pub record AroundIn (p : Plan) (flags : List Row) (at : ℕ) (c : Cell) (g : ℕ) (cells : List Cell) (w₀ h₀ : List ℕ) (z₀ : Sizes) (w h : List ℕ) (z : Sizes) (i : ℕ) : Type 0 where
-  pub within : i ≤ 14
-  pub long : length cells ≡ 14
   pub workspace-length : length w ≡ length w₀
   pub heap-length : length h ≡ length h₀
   pub fits : Fits p w h z
   pub below : at < z.known
   pub same : relax_all_in p flags at c g (drop i cells) w h z ≡ relax_all_in p flags at c g cells w₀ h₀ z₀
 
-module _ {p : Plan} {flags : List Row} {at : ℕ} {c : Cell} {g : ℕ} {cells : List Cell} {w₀ h₀ : List ℕ} {z₀ : Sizes} where
-  pub around-start : length cells ≡ 14 → Fits p w₀ h₀ z₀ → at < z₀.known → AroundIn p flags at c g cells w₀ h₀ z₀ w₀ h₀ z₀ 0
-  around-start long fits below = record { within = omega arith; long = long; workspace-length = refl; heap-length = refl; fits = fits; below = below; same = refl }
-
-  module _ {w h : List ℕ} {z : Sizes} {i : ℕ} (a : AroundIn p flags at c g cells w₀ h₀ z₀ w h z i) where
-    module _ (d : Cell) (less : i < 14) (w' h' : List ℕ) (r : Step) (m : (w', h', r) ≡ relax_in p flags at c g (get_or cells i d) w h z) where
+module _ {p : Plan} {flags : List Row} {at : ℕ} {c : Cell} {g : ℕ} {cells : List Cell} {w₀ h₀ : List ℕ} {z₀ : Sizes} {w h : List ℕ} {z : Sizes} {i : ℕ}
+    (a : AroundIn p flags at c g cells w₀ h₀ z₀ w h z i) where
+  module _ (d : Cell) (less : i < length cells) (w' h' : List ℕ) where
+    module _ (r : Step) (m : (w', h', r) ≡ relax_in p flags at c g (get_or cells i d) w h z) where
       others : and_then_in w' h' r (relax_all_in p flags at c g (drop (i + 1) cells)) ≡ relax_all_in p flags at c g cells w₀ h₀ z₀
       unfolding relax_all_in
       others =
-          let first : drop i cells ≡ get_or cells i d ∷ drop (i + 1) cells = drop-cons cells i d (omega (arith, a.long)) ∙ ap (λ (k : ℕ). get_or cells i d ∷ drop k cells) (sym (add-one i)) in
+          let first : drop i cells ≡ get_or cells i d ∷ drop (i + 1) cells = drop-cons cells i d less ∙ ap (λ (k : ℕ). get_or cells i d ∷ drop k cells) (sym (add-one i)) in
           ap (λ (x : After). and_then_in x.0 x.1 x.2 (relax_all_in p flags at c g (drop (i + 1) cells))) m
           ∙ ap (λ (l : List Cell). relax_all_in p flags at c g l w h z) (sym first)
           ∙ a.same
@@ -50,37 +47,29 @@ module _ {p : Plan} {flags : List Row} {at : ℕ} {c : Cell} {g : ℕ} {cells : 
       kept : Kept p w h z 1 (w', h', r)
       kept = subst (Kept p w h z 1) (sym m) (relax-kept p flags w h z a.fits at c g (get_or cells i d))
 
-      pub around-workspace : length w' ≡ length w₀
-      around-workspace = kept.workspace-length ∙ a.workspace-length
+      -- it has ended
+      pub around_out : ((z' : Sizes) → r ≡ step.Going z' → ⊥) → (w', h', r) ≡ relax_all_in p flags at c g cells w₀ h₀ z₀
+      around_out last = stays r (relax_all_in p flags at c g (drop (i + 1) cells)) last ∙ others
+        where
+          stays : (r : Step) (next : List ℕ → List ℕ → Sizes → After) → ((z' : Sizes) → r ≡ step.Going z' → ⊥) → (w', h', r) ≡ and_then_in w' h' r next
+          stays (step.Stopped q) next last = refl
+          stays (step.Arrived z') next last = refl
+          stays (step.Going z') next last = absurd (last z' refl)
 
-      pub around-heap : length h' ≡ length h₀
-      around-heap = kept.heap-length ∙ a.heap-length
-
-    pub around-next : (d : Cell) (less : i < 14) (w' h' : List ℕ) (z' : Sizes) → (w', h', step.Going z') ≡ relax_in p flags at c g (get_or cells i d) w h z → AroundIn p flags at c g cells w₀ h₀ z₀ w' h' z' (i + 1)
-    around-next d less w' h' z' m =
-        let after = kept d less w' h' (step.Going z') m in
+    pub around_next : (z' : Sizes) → (w', h', step.Going z') ≡ relax_in p flags at c g (get_or cells i d) w h z → AroundIn p flags at c g cells w₀ h₀ z₀ w' h' z' (i + 1)
+    around_next z' m =
+        let after = kept (step.Going z') m in
         record {
-          within = omega (arith, less);
-          long = a.long;
           workspace-length = after.workspace-length ∙ a.workspace-length;
           heap-length = after.heap-length ∙ a.heap-length;
           fits = fits_kept p w h w' h' z z' 1 a.fits after;
           below = omega (arith, a.below, after.on.from);
-          same = others d less w' h' (step.Going z') m;
+          same = others (step.Going z') m;
         }
 
-    pub around-stopped : (d : Cell) (less : i < 14) (w' h' : List ℕ) (r : Refusal) → (w', h', step.Stopped r) ≡ relax_in p flags at c g (get_or cells i d) w h z → (w', h', step.Stopped r) ≡ relax_all_in p flags at c g cells w₀ h₀ z₀
-    around-stopped d less w' h' r m = others d less w' h' (step.Stopped r) m
-
-    pub around-arrived : (d : Cell) (less : i < 14) (w' h' : List ℕ) (z' : Sizes) → (w', h', step.Arrived z') ≡ relax_in p flags at c g (get_or cells i d) w h z → (w', h', step.Arrived z') ≡ relax_all_in p flags at c g cells w₀ h₀ z₀
-    around-arrived d less w' h' z' m = others d less w' h' (step.Arrived z') m
-
-    pub around-end : 14 ≤ i → (w, h, step.Going z) ≡ relax_all_in p flags at c g cells w₀ h₀ z₀
-    unfolding relax_all_in
-    around-end past =
-        let all : length cells ≡ i = omega (arith, a.long, a.within) in
-        let none : drop i cells ≡ [] = subst (λ (k : ℕ). drop k cells ≡ []) all (drop-length cells) in
-        ap (λ (l : List Cell). relax_all_in p flags at c g l w h z) (sym none) ∙ a.same
+  pub around_end : length cells ≤ i → (w, h, step.Going z) ≡ relax_all_in p flags at c g cells w₀ h₀ z₀
+  unfolding relax_all_in
+  around_end past = sym (at_drop_all (λ (l : List Cell). relax_all_in p flags at c g l w h z) cells i past) ∙ a.same
 
 -- ---- pop after pop
 

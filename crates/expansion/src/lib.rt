@@ -235,6 +235,7 @@ fn relax(
 }
 
 // One neighbour after the other.
+#[tactic(auto, using(crate::proofs::BytesLoops::around_end))]
 fn relax_all(
     workspace: &mut [u8],
     heap: &mut [u8],
@@ -252,18 +253,12 @@ fn relax_all(
         (workspace.new, heap.new, result) ≡ relax_all_in plan rows at c g cells workspace.old heap.old sizes }
 {
     let mut size = sizes;
-    let mut i = 0;
-    while i < 14 {
-        match relax(
-            workspace, heap, flags, count, plan, size, at, c, g, cells[i],
-        ) {
-            Step::Going(z) => {
-                size = z;
-            }
-            Step::Stopped(r) => return Step::Stopped(r),
-            Step::Arrived(z) => return Step::Arrived(z),
-        }
-        i += 1;
+    for n in cells {
+        let r = relax(workspace, heap, flags, count, plan, size, at, c, g, n);
+        let Step::Going(z) = r else {
+            return r;
+        };
+        size = z;
     }
     Step::Going(size)
 }
@@ -380,10 +375,7 @@ fn is_paused(workspace: &[u8], heap: &[u8], plan: Plan, sizes: Sizes, until: u64
     requires { Fits plan workspace.now heap.now sizes }
     ensures { result ≡ paused_in plan until workspace.now heap.now sizes }
 {
-    if until <= sizes.count {
-        return is_due(workspace, heap, plan, sizes);
-    }
-    false
+    until <= sizes.count && is_due(workspace, heap, plan, sizes)
 }
 
 // Pop after pop, until so many cells are closed and the next pop would close one more, or to the end.
@@ -439,12 +431,9 @@ pub fn run(
 fn is_sized(plan: Plan, sizes: Sizes) -> bool
     ensures { result ≡ is_sized plan sizes }
 {
-    if sizes.known <= plan.known {
-        if sizes.waiting <= plan.waiting {
-            return sizes.count <= sizes.known as u64;
-        }
-    }
-    false
+    sizes.known <= plan.known
+        && sizes.waiting <= plan.waiting
+        && sizes.count <= sizes.known as u64
 }
 
 // The same with sizes that a caller kept, and may have altered.

@@ -1,19 +1,12 @@
--- The invariant: the first i neighbours were looked at.
-use Prim.Native.Nat.{◌-◌}
-use Rattle.expansion.proofs.BytesLoops.{around-next, around-stopped, around-arrived, around-end}
+-- A neighbour more was looked at, or the step was the last.
+use Rattle.std.proofs.Common.{arith}
+use Rattle.expansion.proofs.BytesLoops.{around_out, around_next}
 use Rattle.expansion.proofs.relax_all.Goals as goal
 
-pub returns-in-Stopped : goal.returns-in-Stopped
-returns-in-Stopped c =
-    around-stopped c.loop-i.invariant (record { high = 0; low = 0 }) c.loop-i-test.true _ _ _ (rw c.in-Stopped.is at c.relax.ensures)
+pub returns-in_default : goal.returns-in_default
+returns-in_default c =
+    around_out c.loop-n.invariant (record { high = 0; low = 0 }) (omega arith) _ _ _ c.relax-r.ensures c.in_default.not-Going
 
-pub returns-in-Arrived : goal.returns-in-Arrived
-returns-in-Arrived c =
-    around-arrived c.loop-i.invariant (record { high = 0; low = 0 }) c.loop-i-test.true _ _ _ (rw c.in-Arrived.is at c.relax.ensures)
-
-pub loop-i-preserved : goal.loop-i-preserved
-loop-i-preserved c =
-    around-next c.loop-i.invariant (record { high = 0; low = 0 }) c.loop-i-test.true _ _ _ (rw c.in-Going.is at c.relax.ensures)
-
-pub returns : goal.returns
-returns c = around-end c.loop-i.invariant c.loop-i-test.false
+pub loop-n-preserved : goal.loop-n-preserved
+loop-n-preserved c =
+    around_next c.loop-n.invariant (record { high = 0; low = 0 }) (omega arith) _ _ _ (rw c.in-Going.is at c.relax-r.ensures)
