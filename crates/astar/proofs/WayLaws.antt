@@ -5,7 +5,7 @@ use mathlib.Core.Bool.{Bool, true, false, cond}
 use mathlib.Core.List.{List, [], ◌∷◌, map}
 use mathlib.Core.Logic.{◌⊎◌, inl, inr, ⊎_elim}
 use mathlib.Core.Option.{Option, none, some}
-use Prim.Native.Nat.{ℕ, zero, suc, ◌+◌, ◌-◌, ◌*◌, ◌≤◌, ◌<◌}
+use Prim.Native.Nat.{ℕ, zero, suc, ◌+◌, ◌-◌, ◌≤◌, ◌<◌}
 use native.Mathlib.Omega.{arith}
 use lib.Dec.{leb, ltb, eqb}
 use lib.ListN.{length, length-map}
@@ -20,7 +20,7 @@ use Rattle.general.specs.Changed.{changed}
 use Rattle.cell_list.specs.Listing.{room_in, cells_laid}
 use Rattle.cell_list.proofs.Listing.{laid_from}
 use Rattle.cell_list.specs.Inner.Listing.{cell_put}
-use Rattle.cell_list.proofs.Laws.{cells-within, none-laid-from, laid-from-front, length-laid-from, cell-before}
+use Rattle.cell_list.proofs.Laws.{cells-within, none-laid-from, laid-from-front, cell-before}
 use Rattle.known.specs.Inner.Known.{cell_in}
 use Rattle.known.proofs.Laws.{cell-words}
 use Rattle.search.specs.Search.{found, find, before_of, traced}
@@ -115,49 +115,50 @@ module _ (p : Plan) (w : List ℕ) (n : ℕ) where
 
 -- ---- a way that is counted
 
--- so many cells were counted; `left` steps at most are left from record `at`
-pub record Counting (p : Plan) (w : List ℕ) (z : Sizes) (i at left cells : ℕ) : Type 0 where
+-- so many cells were passed; the rest of the way is from record `at`
+pub record Counting (p : Plan) (w : List ℕ) (z : Sizes) (i at passed : ℕ) : Type 0 where
   pub later : List Cell
   pub below : at < z.known
-  pub whole : way_back p w z i ≡ way_in p w z.known left at later
-  pub counted : cells ≡ length later + 1
-  pub together : cells + left ≡ z.count + 1
+  pub whole : way_back p w z i ≡ way_in p w z.known (z.count - passed) at later
+  pub counted : passed ≡ length later
 
-pub counting-start : {p : Plan} {w : List ℕ} {z : Sizes} {i : ℕ} → i < z.known → Counting p w z i i z.count 1
-counting-start below = record { later = []; below = below; whole = refl; counted = omega arith; together = omega arith }
+pub counting_start : {p : Plan} {w : List ℕ} {z : Sizes} {i : ℕ} → i < z.known → Counting p w z i i 0
+counting_start {p} {w} {z} {i} below =
+    let all : z.count ≡ z.count - 0 = omega arith in
+    record { later = []; below = below; whole = ap (λ (m : ℕ). way_in p w z.known m i []) all; counted = refl }
 
-module _ {p : Plan} {w : List ℕ} {z : Sizes} {i at left cells : ℕ} (a : Counting p w z i at left cells) where
+module _ {p : Plan} {w : List ℕ} {z : Sizes} {i at passed : ℕ} (a : Counting p w z i at passed) where
   abbrev here : Cell
   here = cell_in w p.known at
 
-  counted-all : way_in p w z.known left at a.later ≡ some (here ∷ a.later) → Cells cells ≡ length_of (way_back p w z i)
+  counted-all : way_in p w z.known (z.count - passed) at a.later ≡ some (here ∷ a.later) → Cells (passed + 1) ≡ length_of (way_back p w z i)
   counted-all e =
-      let long : cells ≡ length (here ∷ a.later) = omega (arith, a.counted) in
+      let long : passed + 1 ≡ length (here ∷ a.later) = omega (arith, a.counted) in
       ap Cells long ∙ sym (ap length_of (a.whole ∙ e))
 
-  pub counting-out : left ≤ 0 → Cells cells ≡ length_of (way_back p w z i)
-  counting-out none_left = counted-all (way_out p w z.known left at a.later none_left)
+  pub counting_out : z.count ≡ passed → Cells (z.count + 1) ≡ length_of (way_back p w z i)
+  counting_out e = ap (λ (n : ℕ). Cells (n + 1)) e ∙ counted-all (way_out p w z.known (z.count - passed) at a.later (omega arith))
 
   module _ (c : Cell) (read : c ≡ cell_in w p.known at) where
     tested-here : {t : Bool} → same_cell c p.start ≡ t → same_cell here p.start ≡ t
     tested-here e = ap (λ (d : Cell). same_cell d p.start) (sym read) ∙ e
 
-    pub counting-ends : same_cell c p.start ≡ true → Cells cells ≡ length_of (way_back p w z i)
-    counting-ends e = counted-all (way-start p w z.known left at a.later (tested-here e))
+    pub counting_ends : same_cell c p.start ≡ true → Cells (passed + 1) ≡ length_of (way_back p w z i)
+    counting_ends e = counted-all (way-start p w z.known (z.count - passed) at a.later (tested-here e))
 
-    module _ (some_left : 0 < left) (other : same_cell c p.start ≡ false) (b : ℕ) (back : b ≡ before_in w p.known at) where
-      pub counting-broken : z.known ≤ b → NoWay ≡ length_of (way_back p w z i)
-      counting-broken none_has = sym (ap length_of (a.whole ∙ way-broken p w z.known left at a.later some_left (tested-here other) (omega arith)))
+    module _ (more : passed < z.count) (other : same_cell c p.start ≡ false) (b : ℕ) (back : b ≡ before_in w p.known at) where
+      pub counting_broken : z.known ≤ b → NoWay ≡ length_of (way_back p w z i)
+      counting_broken none_has = sym (ap length_of (a.whole ∙ way-broken p w z.known (z.count - passed) at a.later (omega arith) (tested-here other) (omega arith)))
 
-      pub counting-next : b < z.known → Counting p w z i b (left - 1) (cells + 1)
-      counting-next less =
+      pub counting_next : b < z.known → Counting p w z i b (passed + 1)
+      counting_next less =
+          let left : z.count - passed - 1 ≡ z.count - (passed + 1) = omega arith in
           record {
             later = here ∷ a.later;
             below = less;
-            whole = a.whole ∙ way-more p w z.known left at a.later some_left (tested-here other) (omega arith)
-                ∙ ap (λ (j : ℕ). way_in p w z.known (left - 1) j (here ∷ a.later)) (sym back);
+            whole = a.whole ∙ way-more p w z.known (z.count - passed) at a.later (omega arith) (tested-here other) (omega arith)
+                ∙ ap₂ (λ (m j : ℕ). way_in p w z.known m j (here ∷ a.later)) left (sym back);
             counted = omega (arith, a.counted);
-            together = omega (arith, a.together);
           }
 
 -- ---- a way that is written from its end
@@ -167,7 +168,7 @@ whole-way : (x : Option (List Cell)) (cells : ℕ) → length_of x ≡ Cells cel
 whole-way none cells e = absurd (let z : ◌≡◌ {A = ℕ} 0 1 = cc in omega arith)
 whole-way (some cs) cells e = (cs, refl, cc)
 
--- the cells that were passed are written; that of record `at` comes to `place`
+-- the cells that were passed are written; that of record `at` comes before `place`
 pub record Writing (p : Plan) (w : List ℕ) (z : Sizes) (i : ℕ) (entry now : List ℕ) (at place : ℕ) : Type 0 where
   pub left : ℕ
   pub later : List Cell
@@ -175,15 +176,12 @@ pub record Writing (p : Plan) (w : List ℕ) (z : Sizes) (i : ℕ) (entry now : 
   pub below : at < z.known
   pub way : way_back p w z i ≡ some cells
   pub whole : way_in p w z.known left at later ≡ some cells
-  pub placed : place + 1 + length later ≡ length cells
+  pub placed : place + length later ≡ length cells
   pub fits : length cells ≤ room_in entry
-  pub bytes : now ≡ laid_from (place + 1) later entry
+  pub bytes : now ≡ laid_from place later entry
 
 module _ (p : Plan) (w : List ℕ) (z : Sizes) (i cells : ℕ) (long : length_of (way_back p w z i) ≡ Cells cells) where
-  pub way-some : 0 < cells
-  way-some = let way = whole-way (way_back p w z i) cells long in omega (arith, way.2, way-longer p w z.known way.0 z.count i [] way.1)
-
-  pub writing_start : (entry : List ℕ) → i < z.known → cells ≤ room_in entry → Writing p w z i entry entry i (cells - 1)
+  pub writing_start : (entry : List ℕ) → i < z.known → cells ≤ room_in entry → Writing p w z i entry entry i cells
   writing_start entry below within =
       let way = whole-way (way_back p w z i) cells long in
       record {
@@ -193,36 +191,30 @@ module _ (p : Plan) (w : List ℕ) (z : Sizes) (i cells : ℕ) (long : length_of
         below = below;
         way = way.1;
         whole = way.1;
-        placed = omega (arith, way.2, way-some);
+        placed = omega (arith, way.2);
         fits = omega (arith, way.2, within);
-        bytes = sym (none-laid-from (cells - 1 + 1) entry);
+        bytes = sym (none-laid-from cells entry);
       }
 
 module _ {p : Plan} {w : List ℕ} {z : Sizes} {i : ℕ} {entry now : List ℕ} {at place : ℕ} (a : Writing p w z i entry now at place) where
   abbrev this : Cell
   this = cell_in w p.known at
 
-  pub writing-length : length now ≡ length entry
-  writing-length = ap length a.bytes ∙ length-laid-from (place + 1) a.later entry (cells-within (place + 1 + length a.later) entry (omega (arith, a.placed, a.fits)))
-
-  within-entry : 16 * (place + 1) ≤ length entry
-  within-entry = cells-within (place + 1) entry (omega (arith, a.placed, a.fits))
-
-  pub writing-within : 16 * (place + 1) ≤ length now
-  writing-within = omega (arith, within-entry, writing-length)
-
-  -- the way is whole, so that there is a known record before
-  onward : 0 < place → (k : ℕ) × (before_in w p.known at < z.known) × (way_in p w z.known k (before_in w p.known at) (this ∷ a.later) ≡ some a.cells)
-  onward more = way-onward p w z.known a.cells a.left at a.later a.whole (omega (arith, a.placed))
+  -- that of record `at` is not written yet
+  pub writing_some : 0 < place
+  writing_some = omega (arith, way-longer p w z.known a.cells a.left at a.later a.whole, a.placed)
 
   module _ (c : Cell) (read : c ≡ cell_in w p.known at) (now' : List ℕ) where
-    cell-written : now' ≡ cell_put now place c → now' ≡ laid_from place (this ∷ a.later) entry
-    cell-written put = put ∙ ap₂ (λ (m : List ℕ) (d : Cell). cell_put m place d) a.bytes read ∙ cell-before place this a.later entry within-entry
+    cell-written : (k : ℕ) → place ≡ k + 1 → now' ≡ cell_put now k c → now' ≡ laid_from k (this ∷ a.later) entry
+    cell-written k e put =
+        put
+        ∙ ap₂ (λ (m : List ℕ) (d : Cell). cell_put m k d) (a.bytes ∙ ap (λ (j : ℕ). laid_from j a.later entry) e) read
+        ∙ cell-before k this a.later entry (cells-within (k + 1) entry (omega (arith, a.placed, a.fits)))
 
-    pub writing-next : now' ≡ cell_put now place c → 0 < place → (b : ℕ) → b ≡ before_in w p.known at → Writing p w z i entry now' b (place - 1)
-    writing-next put more b back =
-        let on = onward more in
-        let same : place ≡ place - 1 + 1 = omega arith in
+    -- the way is whole, so that there is a known record before
+    pub writing_next : now' ≡ cell_put now (place - 1) c → 1 < place → (b : ℕ) → b ≡ before_in w p.known at → Writing p w z i entry now' b (place - 1)
+    writing_next put more b back =
+        let on = way-onward p w z.known a.cells a.left at a.later a.whole (omega (arith, a.placed)) in
         record {
           left = on.0;
           later = this ∷ a.later;
@@ -232,16 +224,14 @@ module _ {p : Plan} {w : List ℕ} {z : Sizes} {i : ℕ} {entry now : List ℕ} 
           whole = ap (λ (j : ℕ). way_in p w z.known on.0 j (this ∷ a.later)) back ∙ on.2;
           placed = omega (arith, a.placed);
           fits = a.fits;
-          bytes = cell-written put ∙ ap (λ (k : ℕ). laid_from k (this ∷ a.later) entry) same;
+          bytes = cell-written (place - 1) (omega arith) put;
         }
 
-    -- none is left
-    pub writing-last : now' ≡ cell_put now 0 c → place ≤ 0 → now' ≡ laid_in (way_back p w z i) entry
-    writing-last put none_left =
-        let zeroth : place ≡ 0 = omega arith in
-        let last = way-last p w z.known a.cells a.left at a.later a.whole (omega (arith, a.placed)) in
-        cell-written (put ∙ ap (λ (k : ℕ). cell_put now k c) (sym zeroth))
-        ∙ ap (λ (k : ℕ). laid_from k (this ∷ a.later) entry) zeroth
+    -- it is the only one
+    pub writing_last : now' ≡ cell_put now 0 c → place ≤ 1 → now' ≡ laid_in (way_back p w z i) entry
+    writing_last put only =
+        let last = way-last p w z.known a.cells a.left at a.later a.whole (omega (arith, a.placed, writing_some)) in
+        cell-written 0 (omega (arith, writing_some)) put
         ∙ laid-from-front (this ∷ a.later) entry
         ∙ ap (λ (cs : List Cell). cells_laid cs entry) last
         ∙ ap (λ (x : Option (List Cell)). laid_in x entry) (sym a.way)

@@ -169,17 +169,14 @@ fn search(
     }
 }
 
+#[tactic(auto, unfolding(crate::specs::Call::has_rooms))]
 fn has_rooms(known: usize, waiting: usize, workspace: &[u8], heap: &[u8]) -> bool
     ensures { result ≡ has_rooms known waiting workspace.now heap.now }
 {
-    if known::is_room(known) {
-        if known::is_room(waiting) {
-            if known::KNOWN_WIDTH * known + RESERVED <= workspace.len() {
-                return waiting::ENTRY_WIDTH * waiting <= heap.len();
-            }
-        }
-    }
-    false
+    known::is_room(known)
+        && known::is_room(waiting)
+        && known::KNOWN_WIDTH * known + RESERVED <= workspace.len()
+        && waiting::ENTRY_WIDTH * waiting <= heap.len()
 }
 
 // The search in a flag layer, under a rule.

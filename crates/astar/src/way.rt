@@ -21,11 +21,9 @@ fn cells_to(workspace: &[u8], plan: Plan, sizes: Sizes, i: usize) -> Length
     ensures { result ≡ length_of (way_back plan workspace.now sizes i) }
 {
     let mut at = i;
-    let mut left = sizes.count;
-    let mut cells = 1;
-    while 0 < left {
+    for passed in 0..sizes.count as usize {
         if cell::same(known::cell_at(workspace, plan.known, at), plan.start) {
-            return Length::Cells(cells);
+            return Length::Cells(passed + 1);
         }
         let before = search_rows::before_at(workspace, plan.known, sizes.known, at);
         if before >= sizes.known {
@@ -33,10 +31,8 @@ fn cells_to(workspace: &[u8], plan: Plan, sizes: Sizes, i: usize) -> Length
             return Length::NoWay;
         }
         at = before;
-        left -= 1;
-        cells += 1;
     }
-    Length::Cells(cells)
+    Length::Cells(sizes.count as usize + 1)
 }
 
 // The route to the cell of record i, so many cells, at the front of a buffer that holds it.
@@ -45,11 +41,9 @@ fn write(workspace: &[u8], plan: Plan, sizes: Sizes, i: usize, cells: usize, out
     ensures { output.new ≡ laid_in (way_back plan workspace.now sizes i) output.old }
 {
     let mut at = i;
-    let mut place = cells - 1;
-    while 0 < place {
+    for place in (1..cells).rev() {
         cell_list::put(output, place, known::cell_at(workspace, plan.known, at));
         at = search_rows::before_at(workspace, plan.known, sizes.known, at);
-        place -= 1;
     }
     cell_list::put(output, 0, known::cell_at(workspace, plan.known, at));
 }

@@ -1,19 +1,19 @@
--- The invariant: so many cells were counted, and the way from here is the rest of the whole way.
+-- The way ends here, is broken, or goes on.
 use mathlib.Core.Path.{sym, ◌∙◌}
-use Rattle.astar.proofs.WayLaws.{counting-out, counting-ends, counting-broken, counting-next}
+use Rattle.std.proofs.Common.{arith}
+use Rattle.astar.proofs.WayLaws.{counting_out, counting_ends, counting_broken, counting_next}
 use Rattle.astar.proofs.way.cells_to.Goals as goal
 
 pub returns-then-same : goal.returns-then-same
-returns-then-same c =
-    counting-ends c.loop-left.invariant _ c.cell_at.ensures (sym c.same.ensures ∙ c.if-same.true)
+returns-then-same c = counting_ends c.loop-passed.invariant _ c.cell_at.ensures (sym c.same.ensures ∙ c.if-same.true)
 
 pub returns-then-before-sizes : goal.returns-then-before-sizes
 returns-then-before-sizes c =
-    counting-broken c.loop-left.invariant _ c.cell_at.ensures c.loop-left-test.true (sym c.same.ensures ∙ c.if-same.false) _ c.before_at-before.ensures c.if-before-sizes.true
+    counting_broken c.loop-passed.invariant _ c.cell_at.ensures c.loop-passed-test.true (sym c.same.ensures ∙ c.if-same.false) _ c.before_at-before.ensures c.if-before-sizes.true
 
-pub loop-left-preserved : goal.loop-left-preserved
-loop-left-preserved c =
-    counting-next c.loop-left.invariant _ c.cell_at.ensures c.loop-left-test.true (sym c.same.ensures ∙ c.if-same.false) _ c.before_at-before.ensures c.if-before-sizes.false
+pub loop-passed-preserved : goal.loop-passed-preserved
+loop-passed-preserved c =
+    counting_next c.loop-passed.invariant _ c.cell_at.ensures c.loop-passed-test.true (sym c.same.ensures ∙ c.if-same.false) _ c.before_at-before.ensures c.if-before-sizes.false
 
 pub returns : goal.returns
-returns c = counting-out c.loop-left.invariant c.loop-left-test.false
+returns c = counting_out c.loop-passed.invariant (omega arith)

@@ -4,6 +4,3 @@ use Rattle.astar.proofs.way.write.Given as goal
 
 abbrev pub invariant-loop-place : goal.invariant-loop-place
 invariant-loop-place l = Writing l.plan l.workspace l.sizes l.i l.initial.output l.output l.at l.place
-
-abbrev pub decreases-loop-place : goal.decreases-loop-place
-decreases-loop-place l = l.place
