@@ -11,14 +11,14 @@ use Rattle.refusal.specs.declared.Cell.{Cell}
 use Rattle.refusal.specs.declared.Room.TheVariants.{Output}
 use Rattle.refusal.specs.declared.Refusal.{Refusal}
 use Rattle.refusal.specs.declared.Refusal.TheVariants.{NoRoom}
-use Rattle.known.specs.Inner.Known.{cell_in, known_cells, Known}
+use Rattle.known.specs.Inner.Known.{cell_in, known_cells}
 use Rattle.known.proofs.Laws.{length-cells, cells-more}
 use Rattle.ring.specs.declared.Rooms.{Rooms}
 use Rattle.ring.specs.declared.Walked.{Walked}
 use Rattle.ring.specs.declared.Walked.TheVariants.{Going, Stopped}
 use Rattle.ring.specs.Ring.{sight, Walk, going, stopped, and_then, expand, list, list_if, level}
-use Rattle.ring.specs.Inner.State.{cells_between, sight_in, Grown, Shows, Sees, Lists}
-use Rattle.ring.proofs.StateLaws.{grown-none, grown-twice, none_between, first-between, length-between}
+use Rattle.ring.specs.Inner.State.{cells_between, sight_in, Grown, Shows, Sees}
+use Rattle.ring.proofs.StateLaws.{grown-twice, none_between, first-between, length-between}
 
 -- ---- listing
 
@@ -44,21 +44,9 @@ module _ (rooms : Rooms) (l : List ℕ) (n to i : ℕ) where
 
 -- those before record i were listed and expanded
 pub record LevelTo (every : Bool) (rooms : Rooms) (from to : ℕ) (l₀ l : List ℕ) (count i : ℕ) : Type 0 where
-  pub begun : from ≤ i
-  pub index : i ≤ to
   pub grown : Grown l₀ l rooms.known to count
   pub listed : every ≡ true → from ≤ rooms.output → i ≤ rooms.output
   pub rest : level every rooms (cells_between l₀ rooms.known from to) (sight_in every l₀ rooms.known to to from) ≡ level every rooms (cells_between l₀ rooms.known i to) (sight_in every l rooms.known count to i)
-
-pub level-none : (every : Bool) (rooms : Rooms) (from to : ℕ) (l : List ℕ) → Known l rooms.known to → from ≤ to → LevelTo every rooms from to l l to from
-level-none every rooms from to l known ordered =
-    record {
-      begun = omega arith;
-      index = ordered;
-      grown = grown-none l rooms.known to known;
-      listed = λ e room. room;
-      rest = refl;
-    }
 
 module _ {every : Bool} {rooms : Rooms} {from to : ℕ} {l₀ l : List ℕ} {count i : ℕ} (here : LevelTo every rooms from to l₀ l count i) where
   -- the next cell, then those behind it
@@ -104,25 +92,17 @@ module _ {every : Bool} {rooms : Rooms} {from to : ℕ} {l₀ l : List ℕ} {cou
     pub level-more : {w : Walked} {m : ℕ} {c : Cell} → w ≡ Going m → c ≡ cell_in l rooms.known i → Sees rooms (i + 1) count l l' w (λ others. expand rooms others c) → LevelTo every rooms from to l₀ l' m (i + 1)
     level-more {w = w} {m = m} {c = c} told read sees =
         let now = shown w (Going m) c told read sees in
-        let begun = here.begun in
         record {
-          begun = omega arith;
-          index = omega arith;
           grown = grown-twice here.grown now.0;
           listed = λ ring fits. omega (arith, room ring);
           rest = level-next less room ∙ ap (λ (v : Walk). and_then v (level every rooms (cells_between l₀ rooms.known (i + 1) to))) now.1;
         }
 
-  pub level_all : to ≤ i → Shows every l₀ l rooms.known to to to (Going count) (level every rooms (cells_between l₀ rooms.known from to) (sight_in every l₀ rooms.known to to from)) × Lists every rooms from to (Going count)
+  pub level_all : i ≡ to → Shows every l₀ l rooms.known to to to (Going count) (level every rooms (cells_between l₀ rooms.known from to) (sight_in every l₀ rooms.known to to from))
   unfolding level
-  level_all all =
-      let index = here.index in
-      let last : i ≡ to = omega arith in (
-        (
-          here.grown,
-          here.rest
-              ∙ ap (λ (j : ℕ). level every rooms (cells_between l₀ rooms.known j to) (sight_in every l rooms.known count to j)) last
-              ∙ ap (λ (cells : List Cell). level every rooms cells (sight_in every l rooms.known count to to)) (none_between l₀ rooms.known to),
-        ),
-        λ ring fits. omega (arith, here.listed ring fits),
-      )
+  level_all last = (
+    here.grown,
+    here.rest
+        ∙ ap (λ (j : ℕ). level every rooms (cells_between l₀ rooms.known j to) (sight_in every l rooms.known count to j)) last
+        ∙ ap (λ (cells : List Cell). level every rooms cells (sight_in every l rooms.known count to to)) (none_between l₀ rooms.known to),
+  )

@@ -15,7 +15,6 @@ pub mod Expanded
 pub mod Leveled
 pub mod Stepped
 pub mod Started
-pub mod Written
 pub mod Finished
 pub mod Ringed
 pub mod OneAnswer

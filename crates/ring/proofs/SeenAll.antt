@@ -1,5 +1,5 @@
 -- Neighbours one after the other: what is left of them, seen from what was seen so far, is what all of them are from the start.
-use mathlib.Core.Path.{◌≡◌, refl, sym, ap, subst, ◌∙◌}
+use mathlib.Core.Path.{◌≡◌, sym, ap, subst, ◌∙◌}
 use mathlib.Core.Bool.{Bool, true}
 use mathlib.Core.List.{List, []}
 use Prim.Native.Nat.{ℕ, suc, ◌+◌, ◌-◌, ◌≤◌, ◌<◌}
@@ -9,13 +9,12 @@ use lib.ListN.{length, get_or, drop, drop_of_length-le}
 use lib.Seq.{drop-cons}
 use Rattle.refusal.specs.declared.Cell.{Cell}
 use Rattle.refusal.specs.declared.Refusal.{Refusal}
-use Rattle.known.specs.Inner.Known.{Known}
 use Rattle.ring.specs.declared.Rooms.{Rooms}
 use Rattle.ring.specs.declared.Walked.{Walked}
 use Rattle.ring.specs.declared.Walked.TheVariants.{Going, Stopped}
 use Rattle.ring.specs.Ring.{Sight, Walk, and_then, see, see_all}
 use Rattle.ring.specs.Inner.State.{sight_in, Grown, Sees}
-use Rattle.ring.proofs.StateLaws.{grown-none, grown-twice}
+use Rattle.ring.proofs.StateLaws.{grown-twice}
 
 -- what all waiting cells see does not depend on which: the workspace's part of it
 module _ (rooms : Rooms) (next n : ℕ) (l l' : List ℕ) (f : ℕ → Sight → Walk) (before : next ≤ n) where
@@ -24,38 +23,22 @@ module _ (rooms : Rooms) (next n : ℕ) (l l' : List ℕ) (f : ℕ → Sight →
 
 -- the first i cells were seen
 pub record SeenTo (rooms : Rooms) (next count : ℕ) (l₀ : List ℕ) (cells : List Cell) (l : List ℕ) (n i : ℕ) : Type 0 where
-  pub size : length cells ≡ 14
-  pub index : i ≤ 14
   pub waiting : next ≤ count
   pub grown : Grown l₀ l rooms.known count n
   pub rest : (every : Bool) (to k : ℕ) → next ≤ to → to ≤ count → k ≤ to → see_all rooms (to - next) cells (sight_in every l₀ rooms.known count to k) ≡ see_all rooms (to - next) (drop i cells) (sight_in every l rooms.known n to k)
 
-pub seen_none : (rooms : Rooms) (next n : ℕ) (l : List ℕ) (cells : List Cell) → length cells ≡ 14 → next ≤ n → Known l rooms.known n → SeenTo rooms next n l cells l n 0
-seen_none rooms next n l cells size before known =
-    record {
-      size = size;
-      index = omega arith;
-      waiting = before;
-      grown = grown-none l rooms.known n known;
-      rest = λ every to k from within early. refl;
-    }
-
 module _ {rooms : Rooms} {next count : ℕ} {l₀ : List ℕ} {cells : List Cell} {l : List ℕ} {n i : ℕ} (seen : SeenTo rooms next count l₀ cells l n i) where
   -- the next cell, then the others
-  next-seen : (others : ℕ) (d : Cell) (s : Sight) → i < 14 → see_all rooms others (drop i cells) s ≡ and_then (see rooms others (get_or cells i d) s) (see_all rooms others (drop (suc i) cells))
+  next-seen : (others : ℕ) (d : Cell) (s : Sight) → i < length cells → see_all rooms others (drop i cells) s ≡ and_then (see rooms others (get_or cells i d) s) (see_all rooms others (drop (suc i) cells))
   unfolding see_all
-  next-seen others d s less =
-      let size = seen.size in
-      ap (λ (cs : List Cell). see_all rooms others cs s) (drop-cons cells i d (omega arith))
+  next-seen others d s less = ap (λ (cs : List Cell). see_all rooms others cs s) (drop-cons cells i d less)
 
-  pub seen_more : (l' : List ℕ) {r : Walked} {m : ℕ} (d : Cell) → i < 14 → r ≡ Going m → Sees rooms next n l l' r (λ others. see rooms others (get_or cells i d)) → SeenTo rooms next count l₀ cells l' m (i + 1)
+  pub seen_more : (l' : List ℕ) {r : Walked} {m : ℕ} (d : Cell) → i < length cells → r ≡ Going m → Sees rooms next n l l' r (λ others. see rooms others (get_or cells i d)) → SeenTo rooms next count l₀ cells l' m (i + 1)
   seen_more l' {m = m} d less e said =
       let sees = subst (λ (r : Walked). Sees rooms next n l l' r (λ others. see rooms others (get_or cells i d))) e said in
       let waiting = seen.waiting in
       let more = seen.grown.more in
       record {
-        size = seen.size;
-        index = omega arith;
         waiting = seen.waiting;
         grown = grown-twice seen.grown (sees-grown rooms next n l l' (λ others. see rooms others (get_or cells i d)) (omega arith) sees);
         rest = λ every to k from within early.
@@ -65,7 +48,7 @@ module _ {rooms : Rooms} {next count : ℕ} {l₀ : List ℕ} {cells : List Cell
             ∙ ap (λ (j : ℕ). see_all rooms (to - next) (drop j cells) (sight_in every l' rooms.known m to k)) (sym (add-one i));
       }
 
-  pub seen-stopped : (l' : List ℕ) {w : Walked} {r : Refusal} (d : Cell) → i < 14 → w ≡ Stopped r → Sees rooms next n l l' w (λ others. see rooms others (get_or cells i d)) → Sees rooms next count l₀ l' (Stopped r) (λ others. see_all rooms others cells)
+  pub seen-stopped : (l' : List ℕ) {w : Walked} {r : Refusal} (d : Cell) → i < length cells → w ≡ Stopped r → Sees rooms next n l l' w (λ others. see rooms others (get_or cells i d)) → Sees rooms next count l₀ l' (Stopped r) (λ others. see_all rooms others cells)
   seen-stopped l' d less e said every to k from within early =
       let sees = subst (λ (r : Walked). Sees rooms next n l l' r (λ others. see rooms others (get_or cells i d))) e said in
       let waiting = seen.waiting in
@@ -77,9 +60,8 @@ module _ {rooms : Rooms} {next count : ℕ} {l₀ : List ℕ} {cells : List Cell
             ∙ ap (λ (w : Walk). and_then w (see_all rooms (to - next) (drop (suc i) cells))) now.1,
       )
 
-  pub seen_all : 14 ≤ i → Sees rooms next count l₀ l (Going n) (λ others. see_all rooms others cells)
+  pub seen_all : length cells ≤ i → Sees rooms next count l₀ l (Going n) (λ others. see_all rooms others cells)
   unfolding see_all
   seen_all all every to k from within early =
-      let size = seen.size in
-      let none : drop i cells ≡ [] = drop_of_length-le cells {i = i} (omega arith) in
+      let none : drop i cells ≡ [] = drop_of_length-le cells {i = i} all in
       (seen.grown, seen.rest every to k from within early ∙ ap (λ (cs : List Cell). see_all rooms (to - next) cs (sight_in every l rooms.known n to k)) none)

@@ -2,7 +2,7 @@
 use mathlib.Core.Path.{◌≡◌, refl, sym, ap, ap₂, subst, ◌∙◌}
 use mathlib.Core.Bool.{Bool, true}
 use mathlib.Core.List.{List, []}
-use Prim.Native.Nat.{ℕ, zero, suc, ◌-◌, ◌≤◌, ◌<◌}
+use Prim.Native.Nat.{ℕ, zero, suc, ◌+◌, ◌-◌, ◌≤◌, ◌<◌}
 use native.Mathlib.Omega.{arith}
 use lib.ListN.{length}
 use Rattle.refusal.specs.declared.Cell.{Cell}
@@ -28,26 +28,23 @@ levels-end every rooms k known found listed cells none end =
     ∙ levels-empty every rooms k known listed
     ∙ sym (ap₂ (λ (cs f : List Cell). list_all rooms cs (sight known f listed)) none end)
 
--- so many steps are left, and the cells at hand are the records from `from` up to `to`
-pub record SteppedTo (every : Bool) (rooms : Rooms) (k : ℕ) (l₀ l : List ℕ) (from to left : ℕ) : Type 0 where
+-- so many steps are done, and the cells at hand are the records from `from` up to `to`
+pub record SteppedTo (every : Bool) (rooms : Rooms) (k : ℕ) (l₀ l : List ℕ) (from to done : ℕ) : Type 0 where
   pub known : Known l rooms.known to
   pub ordered : from ≤ to
   pub length-kept : length l ≡ length l₀
   pub listed : every ≡ true → from ≤ rooms.output
-  pub rest : levels every rooms k (cells_between l₀ rooms.known 0 1) (sight_in every l₀ rooms.known 1 1 0) ≡ levels every rooms left (cells_between l rooms.known from to) (sight_in every l rooms.known to to from)
+  pub rest : levels every rooms k (cells_between l₀ rooms.known 0 1) (sight_in every l₀ rooms.known 1 1 0) ≡ levels every rooms (k - done) (cells_between l rooms.known from to) (sight_in every l rooms.known to to from)
 
-pub stepped-none : (every : Bool) (rooms : Rooms) (k : ℕ) (l : List ℕ) → Known l rooms.known 1 → SteppedTo every rooms k l l 0 1 k
-stepped-none every rooms k l known = record { known = known; ordered = omega arith; length-kept = refl; listed = λ ring. omega arith; rest = refl }
-
-module _ {every : Bool} {rooms : Rooms} {k : ℕ} {l₀ l : List ℕ} {from to left : ℕ} (here : SteppedTo every rooms k l₀ l from to left) where
+module _ {every : Bool} {rooms : Rooms} {k : ℕ} {l₀ l : List ℕ} {from to done : ℕ} (here : SteppedTo every rooms k l₀ l from to done) where
   -- a level, then the others
-  next_level : 0 < left → levels every rooms k (cells_between l₀ rooms.known 0 1) (sight_in every l₀ rooms.known 1 1 0) ≡ and_then (level every rooms (cells_between l rooms.known from to) (sight_in every l rooms.known to to from)) (λ t. levels every rooms (left - 1) t.found (further t))
+  next_level : done < k → levels every rooms k (cells_between l₀ rooms.known 0 1) (sight_in every l₀ rooms.known 1 1 0) ≡ and_then (level every rooms (cells_between l rooms.known from to) (sight_in every l rooms.known to to from)) (λ t. levels every rooms (k - (done + 1)) t.found (further t))
   unfolding levels
   next_level some =
-      let one : left ≡ suc (left - 1) = omega arith in
+      let one : k - done ≡ suc (k - (done + 1)) = omega arith in
       here.rest ∙ ap (λ (m : ℕ). levels every rooms m (cells_between l rooms.known from to) (sight_in every l rooms.known to to from)) one
 
-  module _ (l' : List ℕ) (some : 0 < left) where
+  module _ (l' : List ℕ) (some : done < k) where
     -- what the level showed
     shown : (w r : Walked) → w ≡ r → Shows every l l' rooms.known to to to w (level every rooms (cells_between l rooms.known from to) (sight_in every l rooms.known to to from)) → Shows every l l' rooms.known to to to r (level every rooms (cells_between l rooms.known from to) (sight_in every l rooms.known to to from))
     shown w r told shows = subst (λ (v : Walked). Shows every l l' rooms.known to to to v (level every rooms (cells_between l rooms.known from to) (sight_in every l rooms.known to to from))) told shows
@@ -55,9 +52,9 @@ module _ {every : Bool} {rooms : Rooms} {k : ℕ} {l₀ l : List ℕ} {from to l
     pub stepped-stopped : {w : Walked} {r : Refusal} → w ≡ Stopped r → Shows every l l' rooms.known to to to w (level every rooms (cells_between l rooms.known from to) (sight_in every l rooms.known to to from)) → (length l' ≡ length l₀) × (levels every rooms k (cells_between l₀ rooms.known 0 1) (sight_in every l₀ rooms.known 1 1 0) ≡ stopped r)
     stepped-stopped {w = w} {r = r} told shows =
         let now = shown w (Stopped r) told shows in
-        (now.0 ∙ here.length-kept, next_level some ∙ ap (λ (v : Walk). and_then v (λ t. levels every rooms (left - 1) t.found (further t))) now.1)
+        (now.0 ∙ here.length-kept, next_level some ∙ ap (λ (v : Walk). and_then v (λ t. levels every rooms (k - (done + 1)) t.found (further t))) now.1)
 
-    pub stepped-more : {w : Walked} {n : ℕ} → w ≡ Going n → Shows every l l' rooms.known to to to w (level every rooms (cells_between l rooms.known from to) (sight_in every l rooms.known to to from)) → Lists every rooms from to w → SteppedTo every rooms k l₀ l' to n (left - 1)
+    pub stepped-more : {w : Walked} {n : ℕ} → w ≡ Going n → Shows every l l' rooms.known to to to w (level every rooms (cells_between l rooms.known from to) (sight_in every l rooms.known to to from)) → Lists every rooms from to w → SteppedTo every rooms k l₀ l' to n (done + 1)
     stepped-more {w = w} {n = n} told shows lists =
         let now = shown w (Going n) told shows in
         let more = now.0.more in
@@ -68,8 +65,8 @@ module _ {every : Bool} {rooms : Rooms} {k : ℕ} {l₀ l : List ℕ} {from to l
           listed = λ ring. subst (Lists every rooms from to) told lists ring (here.listed ring);
           rest =
               next_level some
-              ∙ ap (λ (v : Walk). and_then v (λ t. levels every rooms (left - 1) t.found (further t))) now.1
-              ∙ ap (levels every rooms (left - 1) (cells_between l' rooms.known to n)) (sight-further every l' rooms.known n to to);
+              ∙ ap (λ (v : Walk). and_then v (λ t. levels every rooms (k - (done + 1)) t.found (further t))) now.1
+              ∙ ap (levels every rooms (k - (done + 1)) (cells_between l' rooms.known to n)) (sight-further every l' rooms.known n to to);
         }
 
   -- no cell is left, or no step
@@ -82,12 +79,12 @@ module _ {every : Bool} {rooms : Rooms} {k : ℕ} {l₀ l : List ℕ} {from to l
         listed = here.listed;
         rest =
             here.rest
-            ∙ levels-end every rooms left (sight_in every l rooms.known to to from).known (sight_in every l rooms.known to to from).found (sight_in every l rooms.known to to from).listed (cells_between l rooms.known from to)
+            ∙ levels-end every rooms (k - done) (sight_in every l rooms.known to to from).known (sight_in every l rooms.known to to from).found (sight_in every l rooms.known to to from).listed (cells_between l rooms.known from to)
             (ap (λ (j : ℕ). cells_between l rooms.known j to) none ∙ none_between l rooms.known to)
             (none_between l rooms.known to);
       }
 
-  pub stepped-all : left ≡ 0 → Last every l₀ l rooms from to (levels every rooms k (cells_between l₀ rooms.known 0 1) (sight_in every l₀ rooms.known 1 1 0))
+  pub stepped-all : k ≤ done → Last every l₀ l rooms from to (levels every rooms k (cells_between l₀ rooms.known 0 1) (sight_in every l₀ rooms.known 1 1 0))
   unfolding levels
   stepped-all none =
       record {
@@ -95,5 +92,5 @@ module _ {every : Bool} {rooms : Rooms} {k : ℕ} {l₀ l : List ℕ} {from to l
         ordered = here.ordered;
         length-kept = here.length-kept;
         listed = here.listed;
-        rest = here.rest ∙ ap (λ (m : ℕ). levels every rooms m (cells_between l rooms.known from to) (sight_in every l rooms.known to to from)) none;
+        rest = let end : k - done ≡ 0 = omega arith in here.rest ∙ ap (λ (m : ℕ). levels every rooms m (cells_between l rooms.known from to) (sight_in every l rooms.known to to from)) end;
       }

@@ -79,15 +79,11 @@ fn see_all(
     ensures { Sees rooms next count workspace.old workspace.new result (λ others. see_all rooms others cells) }
 {
     let mut n = count;
-    let mut i = 0;
-    while i < 14 {
-        match see(workspace, rooms, next, n, cells[i]) {
+    for c in cells {
+        match see(workspace, rooms, next, n, c) {
             Walked::Stopped(r) => return Walked::Stopped(r),
-            Walked::Going(more) => {
-                n = more;
-            }
+            Walked::Going(more) => n = more,
         }
-        i += 1;
     }
     Walked::Going(n)
 }
@@ -118,21 +114,15 @@ fn level(workspace: &mut [u8], every: bool, rooms: Rooms, from: usize, to: usize
     ensures lists { Lists every rooms from to result }
 {
     let mut count = to;
-    let mut i = from;
-    while i < to {
-        if every {
-            if i >= rooms.output {
-                return Walked::Stopped(Refusal::NoRoom(Room::Output));
-            }
+    for i in from..to {
+        if every && i >= rooms.output {
+            return Walked::Stopped(Refusal::NoRoom(Room::Output));
         }
         let c = known::cell_at(workspace, rooms.known, i);
         match expand(workspace, rooms, i + 1, count, c) {
             Walked::Stopped(r) => return Walked::Stopped(r),
-            Walked::Going(more) => {
-                count = more;
-            }
+            Walked::Going(more) => count = more,
         }
-        i += 1;
     }
     Walked::Going(count)
 }
@@ -147,10 +137,9 @@ fn levels(workspace: &mut [u8], every: bool, rooms: Rooms, k: u64) -> Reached
 {
     let mut from = 0;
     let mut to = 1;
-    let mut left = k;
-    while 0 < left {
+    for _ in 0..k {
         if from == to {
-            return Reached::Last(Span { from, to });
+            break;
         }
         match level(workspace, every, rooms, from, to) {
             Walked::Stopped(r) => return Reached::Stopped(r),
@@ -159,7 +148,6 @@ fn levels(workspace: &mut [u8], every: bool, rooms: Rooms, k: u64) -> Reached
                 to = more;
             }
         }
-        left -= 1;
     }
     Reached::Last(Span { from, to })
 }
@@ -169,11 +157,8 @@ fn write(workspace: &[u8], room: usize, from: usize, to: usize, output: &mut [u8
     requires { Listable workspace.now room from to output.old }
     ensures { output.new ≡ cells_laid (cells_between workspace.now room from to) output.old }
 {
-    let size = to - from;
-    let mut i = 0;
-    while i < size {
+    for i in 0..to - from {
         cell_list::put(output, i, known::cell_at(workspace, room, from + i));
-        i += 1;
     }
 }
 
@@ -237,15 +222,13 @@ fn walk_from(
     }
 }
 
+#[tactic(auto, unfolding(crate::specs::Ring::has_rooms))]
 fn has_rooms(known: usize, waiting: usize, workspace: &[u8]) -> bool
     ensures { result ≡ has_rooms known waiting workspace.now }
 {
-    if known::is_room(known) {
-        if known::is_room(waiting) {
-            return known::KNOWN_WIDTH * known <= workspace.len();
-        }
-    }
-    false
+    known::is_room(known)
+        && known::is_room(waiting)
+        && known::KNOWN_WIDTH * known <= workspace.len()
 }
 
 // A ring or a shell. The workspace is zeroed when the call returns, whatever it answers, but for a workspace that is too small.

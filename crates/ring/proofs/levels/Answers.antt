@@ -3,18 +3,14 @@ use native.Mathlib.Omega.{arith}
 use Rattle.ring.proofs.Stepped.{stepped-stopped, stepped-more, stepped-empty, stepped-all}
 use Rattle.ring.proofs.levels.Goals as goal
 
-pub returns-then-from-to : goal.returns-then-from-to
-returns-then-from-to c = stepped-empty c.loop-left.invariant (omega arith)
-
 pub returns-in-Stopped : goal.returns-in-Stopped
-returns-in-Stopped c =
-    let here = c.loop-left in
-    stepped-stopped here.invariant _ (omega arith) c.in-Stopped.is c.level.ensures.fact
+returns-in-Stopped c = stepped-stopped c.loop.invariant _ (omega arith) c.in-Stopped.is c.level.ensures.fact
 
-pub loop-left-preserved : goal.loop-left-preserved
-loop-left-preserved c =
-    let here = c.loop-left in
-    stepped-more here.invariant _ (omega arith) c.in-Going.is c.level.ensures.fact c.level.ensures.lists
+pub loop-preserved : goal.loop-preserved
+loop-preserved c = stepped-more c.loop.invariant _ (omega arith) c.in-Going.is c.level.ensures.fact c.level.ensures.lists
 
-pub returns : goal.returns
-returns c = stepped-all c.loop-left.invariant (omega arith)
+pub returns-after-loop : goal.returns-after-loop
+returns-after-loop c = stepped-all c.loop.invariant (omega arith)
+
+pub returns-then-from-to : goal.returns-then-from-to
+returns-then-from-to c = stepped-empty c.loop.invariant (omega arith)

@@ -2,8 +2,5 @@
 use Rattle.ring.proofs.Stepped.{SteppedTo}
 use Rattle.ring.proofs.levels.Given as goal
 
-abbrev pub invariant-loop-left : goal.invariant-loop-left
-invariant-loop-left l = SteppedTo l.every l.rooms l.k l.initial.workspace l.workspace l.from l.to l.left
-
-abbrev pub decreases-loop-left : goal.decreases-loop-left
-decreases-loop-left l = l.left
+abbrev pub invariant-loop : goal.invariant-loop
+invariant-loop l = SteppedTo l.every l.rooms l.k l.initial.workspace l.workspace l.from l.to l.counter

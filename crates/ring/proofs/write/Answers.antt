@@ -1,15 +1,17 @@
 -- Cell by cell: what is written is the front of the span.
-use Prim.Native.Nat.{◌-◌}
-use native.Mathlib.Omega.{arith}
-use Rattle.ring.proofs.Written.{written_none, written-more}
+use mathlib.Core.Path.{sym}
+use Rattle.known.specs.Inner.Known.{cells_in}
+use Rattle.known.proofs.Laws.{length-cells, cells-more}
+use Rattle.cell_list.proofs.Laws.{no-cells-laid, cell-appended}
 use Rattle.ring.proofs.write.Goals as goal
 
 pub loop-i-init : goal.loop-i-init
-loop-i-init c =
-    let args = c.args in
-    written_none args.workspace.now args.room args.from (args.to - args.from) args.output.now c.requires.room-left
+unfolding cells_in
+loop-i-init c = sym (no-cells-laid c.args.output.now)
 
 pub loop-i-preserved : goal.loop-i-preserved
 loop-i-preserved c =
-    let args = c.args in
-    written-more args.workspace.now args.room args.from (args.to - args.from) args.output.now c.requires.room-left c.loop-i.output c.loop-i.i c.loop-i.invariant c.cell_at.result c.put.new.output (omega arith) c.cell_at.ensures c.put.ensures
+    let a = c.args in
+    let w = a.workspace.now in
+    let i = c.loop-i.i in
+    cc (cells-more w a.room a.from i, length-cells w a.room a.from i, cell-appended (cells_in w a.room a.from i) c.cell_at.result a.output.now)
