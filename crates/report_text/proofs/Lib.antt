@@ -6,5 +6,4 @@ pub mod Longer
 pub mod OneAnswer
 pub mod Points
 pub mod Room
-pub mod Copied
 pub mod Blocked
