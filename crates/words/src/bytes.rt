@@ -7,12 +7,7 @@ pub fn zero(bytes: &mut [u8], from: usize, to: usize)
     requires to_in_bounds { to ≤ length bytes.old }
     ensures { bytes.new ≡ take from bytes.old ++ (replicate (to - from) 0 ++ drop to bytes.old) }
 {
-    let size = to - from;
-    let mut i = 0;
-    while i < size {
-        bytes[from + i] = 0;
-        i += 1;
-    }
+    bytes[from..to].fill(0);
 }
 
 // So many bytes from a place of one list into another, at a place of that one.
@@ -21,11 +16,7 @@ pub fn copy(out: &mut [u8], to: usize, source: &[u8], from: usize, size: usize)
     requires size_in_bounds_2 { from + size ≤ length source.now }
     ensures { out.new ≡ take to out.old ++ (take size (drop from source.now) ++ drop (to + size) out.old) }
 {
-    let mut i = 0;
-    while i < size {
-        out[to + i] = source[from + i];
-        i += 1;
-    }
+    out[to..to + size].copy_from_slice(&source[from..from + size]);
 }
 
 // The front of one list into that of another.
