@@ -8,10 +8,9 @@ use borrow.Author.Tests.{eqb-true, eqb-false, ne_eqb}
 use lib.Dec.{eqb, leb}
 use lib.ListN.{length, get_or}
 use Rattle.general.proofs.Tests.{both, on_test, same_or_not}
-use Rattle.bech32m.specs.declared.Kind.TheVariants.{Unknown}
 use Rattle.bech32m.specs.Text.{lowered}
 use Rattle.bech32m.specs.Checksum.{charset, character_of, index_of, value_of}
-use Rattle.bech32m.specs.Valid.{is_of}
+use Rattle.bech32m.specs.Valid.{is_unknown}
 use Rattle.bech32m.proofs.Letters.{inside, lowered-lowered}
 
 -- ---- from a value to its character
@@ -65,10 +64,9 @@ unfolding value_of
 character-value b h = index-found (lowered b) charset h
 
 -- a character that is known has a value, and the other way round
-pub known-value : (b : ℕ) → is_of Unknown b ≡ false → value_of b < 32
-unfolding is_of value_of
+pub known-value : (b : ℕ) → is_unknown b ≡ false → value_of b < 32
+unfolding value_of
 known-value b e = let bound : value_of b ≤ 32 = index-bound (lowered b) charset in let other = eqb-false (value_of b) 32 e in omega arith
 
-pub value-known : (b : ℕ) → value_of b < 32 → is_of Unknown b ≡ false
-unfolding is_of
+pub value-known : (b : ℕ) → value_of b < 32 → is_unknown b ≡ false
 value-known b h = ne_eqb (value_of b) 32 (λ e. omega arith)

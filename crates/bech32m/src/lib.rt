@@ -1,95 +1,68 @@
 // Bech32m, the checksum and the strings of BIP 350, over any prefix: a string is a prefix, the separator `1` and values of five bits, a character each, of which the last six are the checksum.
 #![tactic(auto)]
 
-ghost use Rattle.std.specs.Prelude.{◌≡◌, map, drop};
-ghost use Rattle.bech32m.specs.declared.Place.TheVariants.{At};
-ghost use Rattle.bech32m.specs.Text.{lowered, first_from, some_is};
-ghost use Rattle.bech32m.specs.Checksum.{value_of, digits, chosen, generators, step, sum_from, polymod, highs, lows, expanded, verified};
+ghost use Rattle.std.specs.Prelude.{◌≡◌, ℕ, Bool, Some, map, drop};
+ghost use Rattle.bech32m.specs.Text.{Tests, is_lower, is_upper, lowered, first_from};
+ghost use Rattle.bech32m.specs.Checksum.{value_of, digits, chosen, generators, step, polymod, expanded, verified};
 ghost use Rattle.bech32m.specs.Checksum.{created};
-ghost use Rattle.bech32m.specs.Valid.{is_of, is_mixed, separator_of, is_valid_at, is_valid};
+ghost use Rattle.bech32m.specs.Valid.{is_unprintable, is_unknown, is_mixed, separator_of, is_valid_at, is_valid};
 
 pub mod charset;
 
-// Where a character stands, counted from 0.
-#[derive(Clone, Copy)]
-pub enum Place {
-    At(usize),
-    Nowhere,
+// A letter from a to z.
+pub fn is_lower(character: u8) -> bool
+    ensures { result ≡ is_lower character }
+{
+    character.is_ascii_lowercase()
 }
 
-// What is looked for in a string.
-#[derive(Clone, Copy)]
-pub enum Kind {
-    // A letter from a to z.
-    Lower,
-    // A letter from A to Z.
-    Upper,
-    // No character from 33 to 126.
-    Unprintable,
-    // A character that stands for no value.
-    Unknown,
+// A letter from A to Z.
+pub fn is_upper(character: u8) -> bool
+    ensures { result ≡ is_upper character }
+{
+    character.is_ascii_uppercase()
+}
+
+// No character from 33 to 126.
+pub fn is_unprintable(character: u8) -> bool
+    ensures { result ≡ is_unprintable character }
+{
+    !(33..=126).contains(&character)
+}
+
+// A character that stands for no value.
+pub fn is_unknown(character: u8) -> bool
+    ensures { result ≡ is_unknown character }
+{
+    charset::value_of(character) == 32
 }
 
 // A letter in lower case.
 pub fn lowered(character: u8) -> u8
     ensures { result ≡ lowered character }
 {
-    if character >= 65 {
-        if character <= 90 {
-            return character + 32;
-        }
-    }
-    character
+    character.to_ascii_lowercase()
 }
 
-// Whether a character is of a kind.
-pub fn is_of(kind: Kind, character: u8) -> bool
-    ensures { result ≡ is_of kind character }
+// The first character that passes a test, from a place on.
+pub fn first_from<F: Fn(u8) -> bool>(is: F, text: &[u8], from: usize) -> Option<usize>
+    requires { F.IsAlwaysCallable is }
+    ensures { (test : ℕ → Bool) → Tests (F.post is) test → result ≡ first_from test from (drop from text.now) }
 {
-    match kind {
-        Kind::Lower => character >= 97 && character <= 122,
-        Kind::Upper => character >= 65 && character <= 90,
-        Kind::Unprintable => character < 33 || character > 126,
-        Kind::Unknown => charset::value_of(character) == 32,
-    }
-}
-
-// The first character of a kind, from a place on.
-pub fn first_from(kind: Kind, text: &[u8], from: usize) -> Place
-    ensures { result ≡ first_from (is_of kind) from (drop from text.now) }
-{
-    let mut i = from;
-    while i < text.len() {
-        if is_of(kind, text[i]) {
-            return Place::At(i);
-        }
-        i += 1;
-    }
-    Place::Nowhere
+    (from..text.len()).find(|i| is(text[*i]))
 }
 
 // The last `1` parts prefix and data.
-fn separator_of(text: &[u8]) -> Place
+fn separator_of(text: &[u8]) -> Option<usize>
     ensures { result ≡ separator_of text.now }
 {
-    let mut last = Place::Nowhere;
-    let mut i = 0;
-    while i < text.len() {
-        if text[i] == 49 {
-            last = Place::At(i);
-        }
-        i += 1;
-    }
-    last
+    text.iter().rposition(|c| *c == b'1')
 }
 
 fn chosen(b: u32, generator: u32) -> u32
     ensures { result ≡ chosen b generator }
 {
-    if b % 2 == 1 {
-        return generator;
-    }
-    0
+    if b % 2 == 1 { generator } else { 0 }
 }
 
 // The generators of the bits that leave the sum.
@@ -110,62 +83,12 @@ fn step(sum: u32, value: u8) -> u32
     sum % 33554432 * 32 ^ value as u32 ^ generators(sum / 33554432)
 }
 
-// The sum with more values.
-fn sum_values(sum: u32, values: &[u8]) -> u32
-    ensures { result ≡ sum_from sum values.now }
-{
-    let mut sum = sum;
-    let mut i = 0;
-    while i < values.len() {
-        sum = step(sum, values[i]);
-        i += 1;
-    }
-    sum
-}
-
-// The sum with the values of more characters.
-fn sum_characters(sum: u32, text: &[u8]) -> u32
-    ensures { result ≡ sum_from sum (map value_of text.now) }
-{
-    let mut sum = sum;
-    let mut i = 0;
-    while i < text.len() {
-        sum = step(sum, charset::value_of(text[i]));
-        i += 1;
-    }
-    sum
-}
-
-fn sum_highs(sum: u32, prefix: &[u8]) -> u32
-    ensures { result ≡ sum_from sum (highs (map lowered prefix.now)) }
-{
-    let mut sum = sum;
-    let mut i = 0;
-    while i < prefix.len() {
-        sum = step(sum, lowered(prefix[i]) / 32);
-        i += 1;
-    }
-    sum
-}
-
-fn sum_lows(sum: u32, prefix: &[u8]) -> u32
-    ensures { result ≡ sum_from sum (lows (map lowered prefix.now)) }
-{
-    let mut sum = sum;
-    let mut i = 0;
-    while i < prefix.len() {
-        sum = step(sum, lowered(prefix[i]) % 32);
-        i += 1;
-    }
-    sum
-}
-
 // The sum of a prefix in either case.
 fn sum_prefix(prefix: &[u8]) -> u32
     ensures { result ≡ polymod (expanded (map lowered prefix.now)) }
 {
-    let sum = sum_highs(1, prefix);
-    sum_lows(step(sum, 0), prefix)
+    let highs = prefix.iter().map(|c| lowered(*c) / 32).fold(1, step);
+    prefix.iter().map(|c| lowered(*c) % 32).fold(step(highs, 0), step)
 }
 
 // BIP 350's constant: the sum of a right string.
@@ -175,8 +98,8 @@ const CONSTANT: u32 = 0x2bc830a3;
 pub fn verify_characters(prefix: &[u8], characters: &[u8]) -> bool
     ensures { result ≡ verified (map lowered prefix.now) (map value_of characters.now) }
 {
-    let sum = sum_prefix(prefix);
-    sum_characters(sum, characters) == CONSTANT
+    let values = characters.iter().map(|c| charset::value_of(*c));
+    values.fold(sum_prefix(prefix), step) == CONSTANT
 }
 
 fn six_digits(n: u32) -> [u8; 6]
@@ -196,73 +119,34 @@ fn six_digits(n: u32) -> [u8; 6]
 pub fn create_checksum(prefix: &[u8], values: &[u8]) -> [u8; 6]
     ensures { result ≡ created (map lowered prefix.now) values.now }
 {
-    let zeros = [0u8; 6];
-    let sum = sum_values(sum_prefix(prefix), values);
-    six_digits(sum_values(sum, &zeros) ^ CONSTANT)
-}
-
-// Whether a character of a kind stands somewhere from a place on.
-fn has(kind: Kind, text: &[u8], from: usize) -> bool
-    ensures { result ≡ some_is (is_of kind) (drop from text.now) }
-{
-    let place = first_from(kind, text, from);
-    match place {
-        Place::At(_) => true,
-        Place::Nowhere => false,
-    }
+    let sum = values.iter().copied().chain([0; 6]).fold(sum_prefix(prefix), step);
+    six_digits(sum ^ CONSTANT)
 }
 
 // Some letters are upper case and some are lower case.
 fn is_mixed(text: &[u8]) -> bool
     ensures { result ≡ is_mixed text.now }
 {
-    if has(Kind::Lower, text, 0) {
-        return has(Kind::Upper, text, 0);
-    }
-    false
+    text.iter().any(|c| is_lower(*c)) && text.iter().any(|c| is_upper(*c))
 }
 
 // A prefix, six or more characters with values, and a right checksum, with the separator at a place.
 fn is_valid_at(text: &[u8], at: usize) -> bool
-    ensures { result ≡ is_valid_at text.now (At at) }
+    ensures { result ≡ is_valid_at text.now (Some at) }
 {
-    if at < 1 {
+    if at < 1 || text.len() < 7 || text.len() - 7 < at {
         return false;
     }
-    if text.len() < 7 {
-        return false;
-    }
-    if text.len() - 7 < at {
-        return false;
-    }
-    if has(Kind::Unknown, text, at + 1) {
-        return false;
-    }
-    verify_characters(&text[..at], &text[at + 1..])
-}
-
-// The same, where there may be no separator.
-fn is_valid_parted(text: &[u8], place: Place) -> bool
-    ensures { result ≡ is_valid_at text.now place }
-{
-    match place {
-        Place::At(at) => is_valid_at(text, at),
-        Place::Nowhere => false,
-    }
+    let characters = &text[at + 1..];
+    !characters.iter().any(|c| is_unknown(*c)) && verify_characters(&text[..at], characters)
 }
 
 // What BIP 350 calls a valid string.
 pub fn is_valid(text: &[u8]) -> bool
     ensures { result ≡ is_valid text.now }
 {
-    if has(Kind::Unprintable, text, 0) {
-        return false;
-    }
-    if is_mixed(text) {
-        return false;
-    }
-    if text.len() > 90 {
-        return false;
-    }
-    is_valid_parted(text, separator_of(text))
+    !text.iter().any(|c| is_unprintable(*c))
+        && !is_mixed(text)
+        && text.len() <= 90
+        && separator_of(text).is_some_and(|at| is_valid_at(text, at))
 }
