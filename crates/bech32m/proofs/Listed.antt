@@ -1,15 +1,11 @@
--- Lists: what stands from a place on begins with what stands there, and is the part that ends where the list ends; a table of a function's values has at each place the value there.
+-- Lists: what stands from a place on is the part that ends where the list ends; a table of a function's values has at each place the value there.
 use mathlib.Core.Path.{◌≡◌, sym, ap, ◌∙◌}
 use mathlib.Core.List.{List, [], ◌∷◌}
 use Prim.Native.Nat.{ℕ, zero, suc, ◌+◌, ◌-◌, ◌<◌}
 use native.Mathlib.Nat.{add-zero, zero-add, add-suc, suc-add, le_of_suc-le-suc, not-suc-le-zero}
-use native.Mathlib.Numerals.{add-one}
 use native.Mathlib.Omega.{arith}
 use lib.ListN.{length, get_or, take, drop, length-drop}
-use lib.Seq.{drop-cons, take_all}
-
-pub drop-next : (s : List ℕ) (i : ℕ) → i < length s → drop i s ≡ get_or s i 0 ∷ drop (i + 1) s
-drop-next s i less = rw add-one (drop-cons s i 0 less)
+use lib.Seq.{take_all}
 
 -- a part that ends where the whole ends
 pub part-rest : (s : List ℕ) (i : ℕ) → take (length s - i) (drop i s) ≡ drop i s

@@ -19,6 +19,7 @@ each-at P (b ∷ s) h = (h 0 (omega arith), each-at P s (λ k less. h (suc k) (o
 module _ (t : ℕ → Bool) where
   -- ---- the first
 
+  -- r is the first place from `from` on that passes, if there is one
   abbrev pub First : ℕ → List ℕ → Option ℕ → Type 0
   First from s r =
       MatchOption r ((k : ℕ) → from ≤ k → k < length s → t (get_or s k 0) ≡ false)
@@ -45,6 +46,7 @@ module _ (t : ℕ → Bool) where
 
   -- ---- the last
 
+  -- r is the last place that passes, if there is one
   abbrev pub Last : List ℕ → Option ℕ → Type 0
   Last s r =
       MatchOption r ((k : ℕ) → k < length s → t (get_or s k 0) ≡ false)
@@ -58,6 +60,7 @@ module _ (t : ℕ → Bool) where
 
   -- ---- any
 
+  -- r says whether a place passes
   abbrev pub Anywhere : List ℕ → Bool → Type 0
   Anywhere s r = MatchBool r ((k : ℕ) × (k < length s) × (t (get_or s k 0) ≡ true)) ((k : ℕ) → k < length s → t (get_or s k 0) ≡ false)
 

@@ -88,7 +88,10 @@ fn sum_prefix(prefix: &[u8]) -> u32
     ensures { result ≡ polymod (expanded (map lowered prefix.now)) }
 {
     let highs = prefix.iter().map(|c| lowered(*c) / 32).fold(1, step);
-    prefix.iter().map(|c| lowered(*c) % 32).fold(step(highs, 0), step)
+    prefix
+        .iter()
+        .map(|c| lowered(*c) % 32)
+        .fold(step(highs, 0), step)
 }
 
 // BIP 350's constant: the sum of a right string.
@@ -119,7 +122,11 @@ fn six_digits(n: u32) -> [u8; 6]
 pub fn create_checksum(prefix: &[u8], values: &[u8]) -> [u8; 6]
     ensures { result ≡ created (map lowered prefix.now) values.now }
 {
-    let sum = values.iter().copied().chain([0; 6]).fold(sum_prefix(prefix), step);
+    let sum = values
+        .iter()
+        .copied()
+        .chain([0; 6])
+        .fold(sum_prefix(prefix), step);
     six_digits(sum ^ CONSTANT)
 }
 

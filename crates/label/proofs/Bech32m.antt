@@ -16,11 +16,10 @@ use Rattle.refusal.specs.declared.LabelFault.TheVariants.{Padding}
 use Rattle.refusal.specs.declared.Refusal.{Refusal}
 use Rattle.refusal.specs.Refusals.{cell_of, number_of}
 use Rattle.cell.specs.declared.CellAnswer.TheVariants.{Is, Refused}
-use Rattle.bech32m.specs.declared.Place.TheVariants.{At, Nowhere}
-use Rattle.bech32m.specs.declared.Kind.TheVariants.{Lower, Upper, Unprintable, Unknown}
+use Rattle.std.specs.Prelude.{Some, None}
 use Rattle.bech32m.specs.Text.{is_lower, is_upper, lowered, some_is}
 use Rattle.bech32m.specs.Checksum.{value_of, index_of, verified}
-use Rattle.bech32m.specs.Valid.{is_of, is_separator, separator_of, is_mixed, is_valid_at, is_valid}
+use Rattle.bech32m.specs.Valid.{is_unknown, is_unprintable, is_separator, separator_of, is_mixed, is_valid_at, is_valid}
 use Rattle.bech32m.proofs.Letters.{inside, is-inside, not-upper, lowered-digit}
 use Rattle.bech32m.proofs.CharsetLaws.{character-printed, character-value}
 use Rattle.bech32m.proofs.Found.{none_is, is_none, first-is, last-at, last-passes}
@@ -44,14 +43,13 @@ other false b e = (λ h. contrary h refl, λ h. refl)
 abbrev Printed : ℕ → Type 0
 Printed b = (33 ≤ b) × (b ≤ 126)
 
-printed : (b : ℕ) → Printed (lowered b) → is_of Unprintable b ≡ false
-unfolding is_of
+printed : (b : ℕ) → Printed (lowered b) → is_unprintable b ≡ false
 printed b =
-    on_test (λ (x : ℕ). Printed x → is_of Unprintable b ≡ false) (is_upper b) (b + 32) b
+    on_test (λ (x : ℕ). Printed x → is_unprintable b ≡ false) (is_upper b) (b + 32) b
     (λ u r. let h = inside 65 90 b u in ap not (is-inside 33 126 b (omega arith) (omega arith)))
     (λ u r. ap not (is-inside 33 126 b r.0 r.1))
 
-value-printed : (b : ℕ) → value_of b < 32 → is_of Unprintable b ≡ false
+value-printed : (b : ℕ) → value_of b < 32 → is_unprintable b ≡ false
 value-printed b h = printed b (subst Printed (character-value b h) (character-printed (value_of b) h))
 
 -- the separator has no value
@@ -74,7 +72,7 @@ module _ (s : List ℕ) (t : Taken s) where
   separator : get_or s 4 0 ≡ 49
   separator = lowered-digit (get_or s 4 0) 49 (lit< tt) (expected s 4 (lit< tt) t.begins)
 
-  separated : separator_of s ≡ At 4
+  separated : separator_of s ≡ Some 4
   unfolding separator_of
   separated =
       let long = t.long in
@@ -84,27 +82,27 @@ module _ (s : List ℕ) (t : Taken s) where
   prefixed : map lowered (take 4 s) ≡ prefix
   prefixed = ap (map lowered) (sym (take-take 4 5 s (lit≤ tt))) ∙ map-take lowered 4 (take 5 s) ∙ ap (take 4) t.begins
 
-  all-printed : Each (λ b. is_of Unprintable b ≡ false) s
+  all-printed : Each (λ b. is_unprintable b ≡ false) s
   all-printed =
-      let P : ℕ → Type 0 = λ b. is_of Unprintable b ≡ false in
+      let P : ℕ → Type 0 = λ b. is_unprintable b ≡ false in
       let five : Each Printed beginning = ((lit≤ tt, lit≤ tt), ((lit≤ tt, lit≤ tt), ((lit≤ tt, lit≤ tt), ((lit≤ tt, lit≤ tt), ((lit≤ tt, lit≤ tt), tt))))) in
       let first : Each P (take 5 s) = each-of-map lowered P Printed printed (take 5 s) (subst (Each Printed) (sym t.begins) five) in
       let rest : Each P (drop 5 s) = each-of-map value_of P (λ v. v < 32) value-printed (drop 5 s) (values-small s t) in
       subst (Each P) (take-append-drop 5 s) (each_append P (take 5 s) (drop 5 s) first rest)
 
   not-mixed : is_mixed s ≡ false
-  unfolding is_mixed is_of
+  unfolding is_mixed
   not-mixed =
-      ⊎_elim (λ h. ap (λ b. some_is (is_of Lower) s && b) (is_none (is_of Upper) s h.1) ∙ and-false (some_is (is_of Lower) s))
-      (λ h. ap (λ b. b && some_is (is_of Upper) s) (is_none (is_of Lower) s h.1))
+      ⊎_elim (λ h. ap (λ b. some_is is_lower s && b) (is_none is_upper s h.1) ∙ and-false (some_is is_lower s))
+      (λ h. ap (λ b. b && some_is is_upper s) (is_none is_lower s h.1))
       (one-case s t.in-one-case)
 
-  valid-behind : is_valid_at s (At 4) ≡ true
+  valid-behind : is_valid_at s (Some 4) ≡ true
   unfolding is_valid_at
   valid-behind =
       let long = t.long in
       also
-      (also (also refl (le-leb 11 (length s) (omega arith))) (ap not (is_none (is_of Unknown) (drop 5 s) t.known)))
+      (also (also refl (le-leb 11 (length s) (omega arith))) (ap not (is_none is_unknown (drop 5 s) t.known)))
       (ap (λ (p : List ℕ). verified p (map value_of (drop 5 s))) prefixed ∙ t.right)
 
   taken-label : IsLabel s
@@ -113,7 +111,7 @@ module _ (s : List ℕ) (t : Taken s) where
     long = t.long;
     valid =
         also
-        (also (also (ap not (is_none (is_of Unprintable) s all-printed)) (ap not not-mixed)) (le-leb (length s) 90 (omega arith)))
+        (also (also (ap not (is_none is_unprintable s all-printed)) (ap not not-mixed)) (le-leb (length s) 90 (omega arith)))
         (ap (is_valid_at s) separated ∙ valid-behind);
     separated = separated;
     prefixed = prefixed;
@@ -125,18 +123,18 @@ module _ (s : List ℕ) (l : IsLabel s) where
   -- BIP 350's tests, one by one
   record Tested : Type 0 where
     one : not (is_mixed s) ≡ true
-    known : not (some_is (is_of Unknown) (drop 5 s)) ≡ true
+    known : not (some_is is_unknown (drop 5 s)) ≡ true
     right : verified (map lowered (take 4 s)) (map value_of (drop 5 s)) ≡ true
 
   tested : Tested
   unfolding is_valid is_valid_at
   tested =
-      let all = both (not (some_is (is_of Unprintable) s) && not (is_mixed s) && leb (length s) 90) (is_valid_at s (separator_of s)) l.valid in
-      let size = both (not (some_is (is_of Unprintable) s) && not (is_mixed s)) (leb (length s) 90) all.0 in
-      let case = both (not (some_is (is_of Unprintable) s)) (not (is_mixed s)) size.0 in
-      let here : is_valid_at s (At 4) ≡ true = ap (is_valid_at s) (sym l.separated) ∙ all.1 in
-      let sum = both (leb 1 4 && leb 11 (length s) && not (some_is (is_of Unknown) (drop 5 s))) (verified (map lowered (take 4 s)) (map value_of (drop 5 s))) here in
-      let known = both (leb 1 4 && leb 11 (length s)) (not (some_is (is_of Unknown) (drop 5 s))) sum.0 in
+      let all = both (not (some_is is_unprintable s) && not (is_mixed s) && leb (length s) 90) (is_valid_at s (separator_of s)) l.valid in
+      let size = both (not (some_is is_unprintable s) && not (is_mixed s)) (leb (length s) 90) all.0 in
+      let case = both (not (some_is is_unprintable s)) (not (is_mixed s)) size.0 in
+      let here : is_valid_at s (Some 4) ≡ true = ap (is_valid_at s) (sym l.separated) ∙ all.1 in
+      let sum = both (leb 1 4 && leb 11 (length s) && not (some_is is_unknown (drop 5 s))) (verified (map lowered (take 4 s)) (map value_of (drop 5 s))) here in
+      let known = both (leb 1 4 && leb 11 (length s)) (not (some_is is_unknown (drop 5 s))) sum.0 in
       record { one = case.1; known = known.1; right = sum.1 }
 
   begins : map lowered (take 5 s) ≡ beginning
@@ -146,20 +144,20 @@ module _ (s : List ℕ) (l : IsLabel s) where
       let one : get_or s 4 0 ≡ 49 = eqb-true (get_or s 4 0) 49 (last-passes is_separator 0 s 4 l.separated) in
       ap (map lowered) (take-suc s 4 0 (omega arith)) ∙ map-append lowered (take 4 s) (get_or s 4 0 ∷ []) ∙ ap₂ (λ (p : List ℕ) (b : ℕ). p ++ (lowered b ∷ [])) l.prefixed one
 
-  in-one-case : mixed_at s ≡ Nowhere
-  unfolding is_mixed is_of
+  in-one-case : mixed_at s ≡ None
+  unfolding is_mixed
   in-one-case =
       let long = l.long in
       let some : 0 < length s = omega arith in
-      let absent = other (some_is (is_of Lower) s) (some_is (is_of Upper) s) tested.one in
-      whether (is_lower (get_or s 0 0)) (λ e. all-lower s e (none_is (is_of Upper) s (absent.0 (first-is (is_of Lower) s some e))))
-      (λ e. all_upper s e (none_is (is_of Lower) s (absent.1 (first-is (is_of Upper) s some (upper-c (get_or s 0 0) (expected s 0 (lit< tt) begins) e)))))
+      let absent = other (some_is is_lower s) (some_is is_upper s) tested.one in
+      whether (is_lower (get_or s 0 0)) (λ e. all-lower s e (none_is is_upper s (absent.0 (first-is is_lower s some e))))
+      (λ e. all_upper s e (none_is is_lower s (absent.1 (first-is is_upper s some (upper-c (get_or s 0 0) (expected s 0 (lit< tt) begins) e)))))
 
   label-taken : Taken s
   label-taken = record {
     begins = begins;
     in-one-case = in-one-case;
-    known = none_is (is_of Unknown) (drop 5 s) (not-true (some_is (is_of Unknown) (drop 5 s)) tested.known);
+    known = none_is is_unknown (drop 5 s) (not-true (some_is is_unknown (drop 5 s)) tested.known);
     long = l.long;
     right = ap (λ (p : List ℕ). verified p (values_in s)) (sym l.prefixed) ∙ tested.right;
   }

@@ -9,10 +9,8 @@ use native.Mathlib.Omega.{arith}
 use lib.ListN.{get_or}
 use Rattle.general.specs.Each.{Each}
 use Rattle.general.proofs.Tests.{on_test}
-use Rattle.bech32m.specs.declared.Place.TheVariants.{Nowhere}
-use Rattle.bech32m.specs.declared.Kind.TheVariants.{Lower, Upper}
+use Rattle.std.specs.Prelude.{None}
 use Rattle.bech32m.specs.Text.{is_lower, is_upper, lowered, first_from}
-use Rattle.bech32m.specs.Valid.{is_of}
 use Rattle.bech32m.proofs.Letters.{inside, is-inside, is-outside, not-upper}
 use Rattle.bech32m.proofs.Found.{none_passes, none_found}
 use Rattle.label.specs.Label.{mixed_at}
@@ -49,18 +47,18 @@ upper-string s h = map-map uppered lowered s ∙ map-agree (λ b. uppered (lower
 
 module _ (s : List ℕ) where
   -- one case, by that of the first character
-  pub one-case : mixed_at s ≡ Nowhere → ((is_lower (get_or s 0 0) ≡ true) × Each (λ b. is_upper b ≡ false) s) ⊎ ((is_lower (get_or s 0 0) ≡ false) × Each (λ b. is_lower b ≡ false) s)
-  unfolding mixed_at is_of
+  pub one-case : mixed_at s ≡ None → ((is_lower (get_or s 0 0) ≡ true) × Each (λ b. is_upper b ≡ false) s) ⊎ ((is_lower (get_or s 0 0) ≡ false) × Each (λ b. is_lower b ≡ false) s)
+  unfolding mixed_at
   one-case e = by_first (is_lower (get_or s 0 0)) refl e
     where
-      by_first : (t : Bool) → is_lower (get_or s 0 0) ≡ t → first_from (is_of (cond t Upper Lower)) 0 s ≡ Nowhere → ((is_lower (get_or s 0 0) ≡ true) × Each (λ b. is_upper b ≡ false) s) ⊎ ((is_lower (get_or s 0 0) ≡ false) × Each (λ b. is_lower b ≡ false) s)
-      by_first true f e = inl (f, none_passes (is_of Upper) 0 s e)
-      by_first false f e = inr (f, none_passes (is_of Lower) 0 s e)
+      by_first : (t : Bool) → is_lower (get_or s 0 0) ≡ t → first_from (cond t is_upper is_lower) 0 s ≡ None → ((is_lower (get_or s 0 0) ≡ true) × Each (λ b. is_upper b ≡ false) s) ⊎ ((is_lower (get_or s 0 0) ≡ false) × Each (λ b. is_lower b ≡ false) s)
+      by_first true f e = inl (f, none_passes is_upper 0 s e)
+      by_first false f e = inr (f, none_passes is_lower 0 s e)
 
-  pub all-lower : is_lower (get_or s 0 0) ≡ true → Each (λ b. is_upper b ≡ false) s → mixed_at s ≡ Nowhere
-  unfolding mixed_at is_of
-  all-lower e h = ap (λ t. first_from (is_of (cond t Upper Lower)) 0 s) e ∙ none_found (is_of Upper) 0 s h
+  pub all-lower : is_lower (get_or s 0 0) ≡ true → Each (λ b. is_upper b ≡ false) s → mixed_at s ≡ None
+  unfolding mixed_at
+  all-lower e h = ap (λ t. first_from (cond t is_upper is_lower) 0 s) e ∙ none_found is_upper 0 s h
 
-  pub all_upper : is_lower (get_or s 0 0) ≡ false → Each (λ b. is_lower b ≡ false) s → mixed_at s ≡ Nowhere
-  unfolding mixed_at is_of
-  all_upper e h = ap (λ t. first_from (is_of (cond t Upper Lower)) 0 s) e ∙ none_found (is_of Lower) 0 s h
+  pub all_upper : is_lower (get_or s 0 0) ≡ false → Each (λ b. is_lower b ≡ false) s → mixed_at s ≡ None
+  unfolding mixed_at
+  all_upper e h = ap (λ t. first_from (cond t is_upper is_lower) 0 s) e ∙ none_found is_lower 0 s h

@@ -20,11 +20,10 @@ use Rattle.refusal.specs.Refusals.{raw_of, cell_of}
 use Rattle.cell.specs.declared.CellAnswer.TheVariants.{Is}
 use Rattle.cell.specs.Terms.{Words}
 use Rattle.cell.proofs.Laws.{cell-raw}
-use Rattle.bech32m.specs.declared.Place.TheVariants.{Nowhere}
-use Rattle.bech32m.specs.declared.Kind.TheVariants.{Unknown}
+use Rattle.std.specs.Prelude.{None}
 use Rattle.bech32m.specs.Text.{is_lower, is_upper, lowered}
 use Rattle.bech32m.specs.Checksum.{character_of, value_of, digits, number_from, verified, created}
-use Rattle.bech32m.specs.Valid.{is_of}
+use Rattle.bech32m.specs.Valid.{is_unknown}
 use Rattle.bech32m.proofs.Digits.{digits-below, digits_number, number_digits, number-below}
 use Rattle.bech32m.proofs.Created.{length-created, created-below, created-verified, created-exactly}
 use Rattle.bech32m.proofs.Letters.{lowered-not-upper}
@@ -105,12 +104,12 @@ module _ (s : List ℕ) (c : Cell) (same : map lowered s ≡ label_of c) where
       let back : map value_of (map character_of vs) ≡ vs = map-map value_of character_of vs ∙ map-agree (λ v. value_of (character_of v)) (λ v. v) (λ v. v < 32) value-character vs (values-below c) ∙ map-id vs in
       sym lower ∙ ap (map value_of) characters ∙ back
 
-  taken : mixed_at s ≡ Nowhere → Taken s
+  taken : mixed_at s ≡ None → Taken s
   unfolding label_of
   taken one = record {
     begins = map-take lowered 5 s ∙ ap (take 5) same;
     in-one-case = one;
-    known = each-of-map value_of (λ b. is_of Unknown b ≡ false) (λ v. v < 32) value-known (drop 5 s) (subst (Each (λ v. v < 32)) (sym values_same) (values-below c));
+    known = each-of-map value_of (λ b. is_unknown b ≡ false) (λ v. v < 32) value-known (drop 5 s) (subst (Each (λ v. v < 32)) (sym values_same) (values-below c));
     long = sym (length-map s lowered) ∙ ap length same ∙ length_label c;
     right = ap (verified prefix) values_same ∙ created-verified prefix (data_of c);
   }
@@ -120,7 +119,7 @@ module _ (s : List ℕ) (c : Cell) (same : map lowered s ≡ label_of c) where
   bits-same w =
       ap (λ (l : List ℕ). number_from 0 (take data_width l)) values_same ∙ ap (number_from 0) (take_at (data_of c) (created prefix (data_of c)) data_width (length-data c)) ∙ data-bits c w
 
-  read-spelled : Words c → mixed_at s ≡ Nowhere → read_of s ≡ Is c
+  read-spelled : Words c → mixed_at s ≡ None → read_of s ≡ Is c
   read-spelled w one = taken-read s (taken one) ∙ ap padded (bits-same w) ∙ no-padding (raw_of c) ∙ ap Is (cell-raw c w)
 
 -- in lower case, as it is written
@@ -143,7 +142,7 @@ read_upper c w =
 spelled-by-values : (s : List ℕ) → Taken s → map lowered s ≡ beginning ++ map character_of (values_in s)
 spelled-by-values s t =
     let rest = drop 5 s in
-    let characters : map character_of (map value_of rest) ≡ map lowered rest = map-map character_of value_of rest ∙ map-agree (λ b. character_of (value_of b)) lowered (λ b. is_of Unknown b ≡ false) (λ b h. character-value b (known-value b h)) rest t.known in
+    let characters : map character_of (map value_of rest) ≡ map lowered rest = map-map character_of value_of rest ∙ map-agree (λ b. character_of (value_of b)) lowered (λ b. is_unknown b ≡ false) (λ b h. character-value b (known-value b h)) rest t.known in
     ap (map lowered) (sym (take-append-drop 5 s)) ∙ map-append lowered (take 5 s) rest ∙ ap₂ ◌++◌ t.begins (sym characters)
 
 -- it has 32 values, and 26 of them are data

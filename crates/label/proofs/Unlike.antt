@@ -1,27 +1,37 @@
--- A loop that compares a string's beginning with another's: what the characters at place i add to the answer of the others.
-use mathlib.Core.Bool.{Bool, cond}
-use mathlib.Core.List.{List}
-use mathlib.Core.Path.{◌≡◌, ap, ap₂, ◌∙◌}
-use Prim.Native.Nat.{ℕ, ◌+◌, ◌≤◌, ◌<◌}
+-- What a comparison of a string's beginning with another's tells, at each place, is what the definition says of both.
+use Rattle.std.specs.Prelude.{◌≡◌, false, ◌⊎◌, List, [], ◌∷◌, Some, None, ℕ, zero, suc, ◌+◌, ◌≤◌, ◌<◌, length, get_or}
+use mathlib.Core.Path.{refl, sym, ap, ◌∙◌}
+use mathlib.Core.Logic.{inl, inr, ⊎_elim}
+use native.Mathlib.Nat.{add-zero}
+use native.Mathlib.Omega.{arith}
+use borrow.Author.Tests.{eq-eqb}
 use lib.Dec.{eqb}
-use lib.ListN.{length, get_or, drop, drop_of_length-le}
-use Rattle.bech32m.specs.declared.Place.TheVariants.{At, Nowhere}
 use Rattle.bech32m.specs.Text.{lowered}
-use Rattle.bech32m.proofs.Listed.{drop-next}
 use Rattle.label.specs.Label.{unlike_from}
 
-module _ (expected s : List ℕ) (i : ℕ) where
-  pub unlike-none : length expected ≤ i → unlike_from i (drop i expected) (drop i s) ≡ Nowhere
-  unfolding unlike_from
-  unlike-none past = ap (λ (l : List ℕ). unlike_from i l (drop i s)) (drop_of_length-le expected past)
+-- at a place the string goes on as expected, case aside
+abbrev pub Like : List ℕ → List ℕ → ℕ → Type 0
+Like expected s k = (k < length s) × (lowered (get_or s k 0) ≡ get_or expected k 0)
 
-  module _ (more : i < length expected) where
-    pub unlike-end : length s ≤ i → unlike_from i (drop i expected) (drop i s) ≡ At i
-    unfolding unlike_from
-    unlike-end past = ap₂ (unlike_from i) (drop-next expected i more) (drop_of_length-le s past)
+-- it ends there, or goes on otherwise
+abbrev pub NotLike : List ℕ → List ℕ → ℕ → Type 0
+NotLike expected s k = (length s ≤ k) ⊎ (eqb (lowered (get_or s k 0)) (get_or expected k 0) ≡ false)
 
-    pub unlike-more : i < length s → {b : Bool} → eqb (lowered (get_or s i 0)) (get_or expected i 0) ≡ b → unlike_from i (drop i expected) (drop i s) ≡ cond b (unlike_from (i + 1) (drop (i + 1) expected) (drop (i + 1) s)) (At i)
-    unfolding unlike_from
-    unlike-more less e =
-        ap₂ (unlike_from i) (drop-next expected i more) (drop-next s i less)
-        ∙ ap (λ (b : Bool). cond b (unlike_from (i + 1) (drop (i + 1) expected) (drop (i + 1) s)) (At i)) e
+pub unlike-none : (i : ℕ) (expected s : List ℕ) → ((k : ℕ) → k < length expected → Like expected s k) → unlike_from i expected s ≡ None
+unfolding unlike_from
+unlike-none i [] s h = refl
+unlike-none i (e ∷ expected) [] h = let l = h 0 (omega arith) in absurd (omega arith)
+unlike-none i (e ∷ expected) (b ∷ s) h =
+    rw (eq-eqb (lowered b) e (h 0 (omega arith)).1) (unlike-none (i + 1) expected s (λ k less. let l = h (suc k) (omega arith) in (omega arith, l.1)))
+
+pub unlike-at : (i : ℕ) (expected s : List ℕ) (j : ℕ) → j < length expected → NotLike expected s j → ((k : ℕ) → k < j → Like expected s k) → unlike_from i expected s ≡ Some (i + j)
+unfolding unlike_from
+unlike-at i [] s j less n h = absurd (omega arith)
+unlike-at i (e ∷ expected) [] zero less n h = ap Some (sym (add-zero i))
+unlike-at i (e ∷ expected) [] (suc j) less n h = let l = h 0 (omega arith) in absurd (omega arith)
+unlike-at i (e ∷ expected) (b ∷ s) zero less (inl past) h = absurd (omega arith)
+unlike-at i (e ∷ expected) (b ∷ s) zero less (inr other) h = rw (other, add-zero)
+unlike-at i (e ∷ expected) (b ∷ s) (suc j) less n h =
+    rw (eq-eqb (lowered b) e (h 0 (omega arith)).1)
+    (unlike-at (i + 1) expected s j (omega arith) (⊎_elim (λ past. inl (omega arith)) (λ other. inr other) n) (λ k before. let l = h (suc k) (omega arith) in (omega arith, l.1))
+    ∙ ap Some (let next : i + 1 + j ≡ i + suc j = omega arith in next))

@@ -12,10 +12,9 @@ use lib.Seq.{take-suc, get_or-drop}
 use Rattle.general.specs.Each.{Each}
 use Rattle.refusal.specs.declared.Cell.{Cell}
 use Rattle.refusal.specs.Refusals.{raw_of}
-use Rattle.bech32m.specs.declared.Place.TheVariants.{Nowhere}
-use Rattle.bech32m.specs.declared.Kind.TheVariants.{Unknown}
+use Rattle.std.specs.Prelude.{None}
 use Rattle.bech32m.specs.Checksum.{value_of, number_from}
-use Rattle.bech32m.specs.Valid.{is_of}
+use Rattle.bech32m.specs.Valid.{is_unknown}
 use Rattle.bech32m.proofs.CharsetLaws.{known-value}
 use Rattle.bech32m.proofs.Found.{none_passes}
 use Rattle.bech32m.proofs.Digits.{number-snoc}
@@ -28,11 +27,11 @@ each_at P [] h k less = absurd (not-suc-le-zero less)
 each_at P (x ∷ l) h zero less = h.0
 each_at P (x ∷ l) h (suc k) less = each_at P l h.1 k (le_of_suc-le-suc less)
 
-pub known-below : (s : List ℕ) → unknown_at s ≡ Nowhere → (k : ℕ) → 5 + k < length s → value_of (get_or s (5 + k) 0) < 32
+pub known-below : (s : List ℕ) → unknown_at s ≡ None → (k : ℕ) → 5 + k < length s → value_of (get_or s (5 + k) 0) < 32
 unfolding unknown_at
 known-below s e k h =
     let long = length-drop 5 s in
-    known-value (get_or s (5 + k) 0) (rw get_or-drop at (each_at (λ b. is_of Unknown b ≡ false) (drop 5 s) (none_passes (is_of Unknown) 5 (drop 5 s) e) k (omega arith)))
+    known-value (get_or s (5 + k) 0) (rw get_or-drop at (each_at (λ b. is_unknown b ≡ false) (drop 5 s) (none_passes is_unknown 5 (drop 5 s) e) k (omega arith)))
 
 -- ---- the number that they make
 

@@ -1,6 +1,6 @@
 -- Cell labels on paper, document 02, [1]: "the `cx3d` strings of `to_bech32m` and `from_bech32m` in id.rs, by BIP 350 over the 16 big-endian bytes. A label is 37 characters, `cx3d1`
 -- first, compared without regard to case." Definitions only.
-use Rattle.std.specs.Prelude.{cond, List, [], ◌∷◌, ◌++◌, map, ℕ, ◌+◌, ◌*◌, ◌/◌, ◌%◌, eqb, length, get_or, take, drop}
+use Rattle.std.specs.Prelude.{Bool, cond, List, [], ◌∷◌, ◌++◌, map, Option, Some, None, ℕ, ◌+◌, ◌*◌, ◌/◌, ◌%◌, eqb, length, get_or, take, drop}
 use Rattle.general.specs.Refuse.{refuse_unless}
 use Rattle.refusal.specs.declared.Cell.{Cell}
 use Rattle.refusal.specs.declared.LabelFault.{LabelFault}
@@ -9,13 +9,9 @@ use Rattle.refusal.specs.declared.Refusal.TheVariants.{BadLabel}
 use Rattle.refusal.specs.Refusals.{raw_of, cell_of}
 use Rattle.cell.specs.declared.CellAnswer.{CellAnswer}
 use Rattle.cell.specs.declared.CellAnswer.TheVariants.{Is, Refused}
-use Rattle.bech32m.specs.declared.Place.{Place}
-use Rattle.bech32m.specs.declared.Place.TheVariants.{At, Nowhere}
-use Rattle.bech32m.specs.declared.Kind.{Kind}
-use Rattle.bech32m.specs.declared.Kind.TheVariants.{Lower, Upper, Unknown}
-use Rattle.bech32m.specs.Text.{is_lower, lowered, first_from}
+use Rattle.bech32m.specs.Text.{is_lower, is_upper, lowered, first_from}
 use Rattle.bech32m.specs.Checksum.{character_of, value_of, digits, number_from, created, verified, sum_from}
-use Rattle.bech32m.specs.Valid.{is_of}
+use Rattle.bech32m.specs.Valid.{is_unknown}
 
 -- "cx3d"
 abbrev pub prefix : List ℕ
@@ -48,24 +44,24 @@ label_of c = beginning ++ map character_of (data_of c ++ created prefix (data_of
 -- ---- reading
 
 -- "30 for the prefix": the first character that is not the one expected, case aside, or the end of a string that ends before; the first of both stands at place i
-unfoldable pub unlike_from : ℕ → List ℕ → List ℕ → Place
-unlike_from i [] s = Nowhere
-unlike_from i (e ∷ expected) [] = At i
-unlike_from i (e ∷ expected) (b ∷ s) = cond (eqb (lowered b) e) (unlike_from (i + 1) expected s) (At i)
+unfoldable pub unlike_from : ℕ → List ℕ → List ℕ → Option ℕ
+unlike_from i [] s = None
+unlike_from i (e ∷ expected) [] = Some i
+unlike_from i (e ∷ expected) (b ∷ s) = cond (eqb (lowered b) e) (unlike_from (i + 1) expected s) (Some i)
 
 -- the case that a first letter is not of
-abbrev pub other_case : ℕ → Kind
-other_case b = cond (is_lower b) Upper Lower
+abbrev pub other_case : ℕ → ℕ → Bool
+other_case b = cond (is_lower b) is_upper is_lower
 
 -- "31: the first letter unlike those before it": behind a right prefix the first character is a letter, and all letters before this one are of its case
-unfoldable pub mixed_at : List ℕ → Place
-unfolding is_of first_from
-mixed_at s = first_from (is_of (other_case (get_or s 0 0))) 0 s
+unfoldable pub mixed_at : List ℕ → Option ℕ
+unfolding first_from
+mixed_at s = first_from (other_case (get_or s 0 0)) 0 s
 
 -- "32 character": the first behind the prefix that has no value
-unfoldable pub unknown_at : List ℕ → Place
-unfolding is_of first_from
-unknown_at s = first_from (is_of Unknown) 5 (drop 5 s)
+unfoldable pub unknown_at : List ℕ → Option ℕ
+unfolding first_from
+unknown_at s = first_from is_unknown 5 (drop 5 s)
 
 -- the values behind the prefix
 abbrev pub values_in : List ℕ → List ℕ
@@ -81,9 +77,9 @@ abbrev pub mistyped : LabelFault → ℕ → CellAnswer
 mistyped fault place = Refused (BadLabel (record { fault = fault; place = place }))
 
 -- refused where there is such a place
-abbrev pub refuse_at : LabelFault → Place → CellAnswer → CellAnswer
-refuse_at fault (At place) rest = mistyped fault place
-refuse_at fault Nowhere rest = rest
+abbrev pub refuse_at : LabelFault → Option ℕ → CellAnswer → CellAnswer
+refuse_at fault (Some place) rest = mistyped fault place
+refuse_at fault None rest = rest
 
 -- "33 length, 34 checksum, 35 non-zero padding, in that order"; "the string's length for 33, 34", "35: place 30"
 unfoldable pub read_values : List ℕ → CellAnswer

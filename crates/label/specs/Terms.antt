@@ -1,10 +1,9 @@
 -- What theorems say of labels: letters in upper case, and what BIP 350 has to say of a label. Definitions only.
-use Rattle.std.specs.Prelude.{true, cond, List, map, ◌⊎◌, ◌≡◌, ℕ, ◌-◌, length, take}
+use Rattle.std.specs.Prelude.{true, cond, List, map, Some, ◌⊎◌, ◌≡◌, ℕ, ◌-◌, length, take}
 use Rattle.refusal.specs.declared.Cell.{Cell}
 use Rattle.refusal.specs.declared.LabelFault.TheVariants.{Padding}
 use Rattle.cell.specs.declared.CellAnswer.{CellAnswer}
 use Rattle.cell.specs.declared.CellAnswer.TheVariants.{Is}
-use Rattle.bech32m.specs.declared.Place.TheVariants.{At}
 use Rattle.bech32m.specs.Text.{is_lower, lowered}
 use Rattle.bech32m.specs.Valid.{separator_of, is_valid}
 use Rattle.label.specs.Label.{prefix, label_width, mistyped}
@@ -21,5 +20,5 @@ IsPast a = ((c : Cell) × (a ≡ Is c)) ⊎ (a ≡ mistyped Padding 30)
 pub record IsLabel (s : List ℕ) : Type 0 where
   pub long : length s ≡ label_width
   pub valid : is_valid s ≡ true
-  pub separated : separator_of s ≡ At 4
+  pub separated : separator_of s ≡ Some 4
   pub prefixed : map lowered (take 4 s) ≡ prefix

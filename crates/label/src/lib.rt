@@ -1,13 +1,11 @@
 // A cell's name on paper: `cx3d1`, the cell's 128 bits as 26 characters, and six that show a mistyped one.
 #![tactic(auto)]
 
-ghost use Rattle.std.specs.Prelude.{◌≡◌, ◌++◌, map, ◌+◌, ◌*◌, ◌/◌, ◌^◌, ◌<◌, ◌≤◌, length, take, drop};
+ghost use Rattle.std.specs.Prelude.{◌≡◌, ◌++◌, map, ◌+◌, ◌*◌, ◌/◌, ◌^◌, ◌<◌, ◌≤◌, None, length, take, drop};
 ghost use Rattle.refusal.specs.Refusals.{raw_of, cell_of};
-ghost use Rattle.bech32m.specs.declared.Place.TheVariants.{Nowhere};
 ghost use Rattle.bech32m.specs.Checksum.{character_of};
 ghost use Rattle.label.specs.Label.{beginning, label_width, data_of, label_of, unlike_from, mixed_at, unknown_at, bits_in, mistyped, read_values, read_of};
 
-use bech32m::{Kind, Place};
 use cell::CellAnswer;
 use refusal::{Cell, LabelFault, Mistyped, Refusal};
 
@@ -50,9 +48,7 @@ fn data_of(c: Cell) -> [u8; DATA_WIDTH]
     let mut values = [0u8; DATA_WIDTH];
     values[25] = (c.low % 8 * 4) as u8;
     let mut rest = eighth(c);
-    let mut i = 25;
-    while i > 0 {
-        i -= 1;
+    for i in (0..25).rev() {
         values[i] = (rest.low % 32) as u8;
         rest = thirty_second(rest);
     }
@@ -64,10 +60,8 @@ fn put_characters(out: &mut [u8], at: usize, values: &[u8])
     requires { at + length values.now ≤ length out.old }
     ensures { out.new ≡ take at out.old ++ (map character_of values.now ++ drop (at + length values.now) out.old) }
 {
-    let mut i = 0;
-    while i < values.len() {
-        out[at + i] = bech32m::charset::character_of(values[i]);
-        i += 1;
+    for (i, value) in values.iter().enumerate() {
+        out[at + i] = bech32m::charset::character_of(*value);
     }
 }
 
@@ -85,32 +79,25 @@ pub fn to_bech32m(c: Cell) -> [u8; LABEL_WIDTH]
 }
 
 // The first place that is not as a label begins, or the end of a text that ends before.
-fn unlike_beginning(text: &[u8]) -> Place
+fn unlike_beginning(text: &[u8]) -> Option<usize>
     ensures { result ≡ unlike_from 0 beginning text.now }
 {
-    let mut i = 0;
-    while i < 5 {
-        if i >= text.len() {
-            return Place::At(i);
+    for (i, expected) in BEGINNING.iter().enumerate() {
+        if i >= text.len() || bech32m::lowered(text[i]) != *expected {
+            return Some(i);
         }
-        if bech32m::lowered(text[i]) != BEGINNING[i] {
-            return Place::At(i);
-        }
-        i += 1;
     }
-    Place::Nowhere
+    None
 }
 
 // The first letter that is of another case than the first character.
-fn mixed_at(text: &[u8]) -> Place
+fn mixed_at(text: &[u8]) -> Option<usize>
     ensures { result ≡ mixed_at text.now }
 {
-    if text.len() > 0 {
-        if bech32m::is_of(Kind::Lower, text[0]) {
-            return bech32m::first_from(Kind::Upper, text, 0);
-        }
+    if !text.is_empty() && bech32m::is_lower(text[0]) {
+        return bech32m::first_from(bech32m::is_upper, text, 0);
     }
-    bech32m::first_from(Kind::Lower, text, 0)
+    bech32m::first_from(bech32m::is_lower, text, 0)
 }
 
 fn mistyped(fault: LabelFault, place: usize) -> CellAnswer
@@ -146,21 +133,19 @@ fn with_three(c: Cell, value: u8) -> Cell
 
 // The cell of the 25 values and three bits that a label of known characters has behind its beginning.
 fn cell_in(text: &[u8]) -> Cell
-    requires { (length text.now ≡ label_width) × (unknown_at text.now ≡ Nowhere) }
+    requires { (length text.now ≡ label_width) × (unknown_at text.now ≡ None) }
     ensures { result ≡ cell_of (bits_in text.now / 4) }
 {
     let mut c = Cell { high: 0, low: 0 };
-    let mut i = 0;
-    while i < 25 {
-        c = with_five(c, bech32m::charset::value_of(text[5 + i]));
-        i += 1;
+    for character in &text[5..30] {
+        c = with_five(c, bech32m::charset::value_of(*character));
     }
     with_three(c, bech32m::charset::value_of(text[30]) / 4)
 }
 
 // Length, checksum and padding of a text whose characters are known, then its cell.
 fn read_values(text: &[u8]) -> CellAnswer
-    requires { unknown_at text.now ≡ Nowhere }
+    requires { unknown_at text.now ≡ None }
     ensures { result ≡ read_values text.now }
 {
     if text.len() != LABEL_WIDTH {
@@ -179,21 +164,14 @@ fn read_values(text: &[u8]) -> CellAnswer
 pub fn from_bech32m(text: &[u8]) -> CellAnswer
     ensures { result ≡ read_of text.now }
 {
-    let unlike = unlike_beginning(text);
-    match unlike {
-        Place::At(i) => mistyped(LabelFault::Prefix, i),
-        Place::Nowhere => {
-            let mixed = mixed_at(text);
-            match mixed {
-                Place::At(i) => mistyped(LabelFault::MixedCase, i),
-                Place::Nowhere => {
-                    let unknown = bech32m::first_from(Kind::Unknown, text, 5);
-                    match unknown {
-                        Place::At(i) => mistyped(LabelFault::Character, i),
-                        Place::Nowhere => read_values(text),
-                    }
-                }
-            }
-        }
+    if let Some(i) = unlike_beginning(text) {
+        return mistyped(LabelFault::Prefix, i);
     }
+    if let Some(i) = mixed_at(text) {
+        return mistyped(LabelFault::MixedCase, i);
+    }
+    if let Some(i) = bech32m::first_from(bech32m::is_unknown, text, 5) {
+        return mistyped(LabelFault::Character, i);
+    }
+    read_values(text)
 }

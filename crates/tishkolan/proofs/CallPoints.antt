@@ -21,7 +21,6 @@ use Rattle.cell.specs.Cell.{packed, new_of}
 use Rattle.cell.specs.Bytes.{cell_at, cell_bytes, from_bytes_of}
 use Rattle.bech32m.specs.Text.{first_from}
 use Rattle.bech32m.specs.Checksum.{index_of, value_of, digits, number_from, step, sum_from, created}
-use Rattle.bech32m.specs.Valid.{is_of}
 use Rattle.label.specs.Label.{data_of, label_of, unlike_from, mixed_at, unknown_at, bits_in, read_values, read_of}
 use Rattle.general.specs.Changed.{changed, saying}
 use Rattle.table.specs.Records.{layer, row_at, rows_from, rows_of, row_bytes, ascending, first_fall, is_sound, refilled}
@@ -85,12 +84,12 @@ document-label-told = refl
 
 -- the label is read, and the byte behind the cell stays
 pub document-label-read : cell_told (take 37 document-label) (replicate 17 9) ≡ place_filled no_mistake (new_told 0 3 document-place 28 165 (replicate 17 9)).out
-unfolding new_told new_of packed parity_of is_lattice_point cell_bytes bytes_of low_digits ordered cell_told read_of unlike_from mixed_at unknown_at read_values bits_in number_from is_of value_of index_of first_from sum_from step
+unfolding new_told new_of packed parity_of is_lattice_point cell_bytes bytes_of low_digits ordered cell_told read_of unlike_from mixed_at unknown_at read_values bits_in number_from value_of index_of first_from sum_from step
 document-label-read = refl
 
 -- with a b at place 20, which no label has
 pub document-label-mistyped : cell_told (take 20 document-label ++ 98 ∷ take 16 (drop 21 document-label)) (replicate 16 9) ≡ place_filled (record { refusal = telling 32 0 no_coord; place = 20 }) (replicate 16 9)
-unfolding cell_told read_of unlike_from mixed_at unknown_at is_of value_of index_of first_from
+unfolding cell_told read_of unlike_from mixed_at unknown_at value_of index_of first_from
 document-label-mistyped = refl
 
 -- the parent of (3, 3, 1) is told as (1, 1, 1), and (3, 3, 1) is the sixth place that is listed for it

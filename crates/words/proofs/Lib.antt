@@ -4,5 +4,4 @@ pub mod Laws
 pub mod Four
 pub mod One
 pub mod Points
-pub mod Copies
 pub mod OneAnswer

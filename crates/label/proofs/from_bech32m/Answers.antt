@@ -1,29 +1,32 @@
 -- Place by place, as the definition has them.
 use mathlib.Core.Path.{sym, ◌∙◌}
+use Rattle.std.proofs.Common.{rules}
+use Rattle.bech32m.specs.Valid.{is_unknown}
 use Rattle.label.specs.Label.{unknown_at, read_of}
 use Rattle.label.proofs.from_bech32m.Goals as goal
 
 pub read_values-requires : goal.read_values-requires
 unfolding unknown_at
-read_values-requires c = sym c.first_from-unknown.ensures ∙ c.in-Nowhere-unknown.is
+read_values-requires c = sym (c.first_from.ensures is_unknown (search rules)) ∙ c.in_default-first_from.is
 
-pub returns-in-At : goal.returns-in-At
+pub returns-in-Some : goal.returns-in-Some
 unfolding read_of
-returns-in-At c = c.mistyped.ensures ∙ simp (sym c.unlike_beginning-unlike.ensures ∙ c.in-At.is)
+returns-in-Some c = c.mistyped.ensures ∙ simp (sym c.unlike_beginning.ensures ∙ c.in-Some.is)
 
-pub returns-in-At-mixed : goal.returns-in-At-mixed
+pub returns-in-Some-mixed_at : goal.returns-in-Some-mixed_at
 unfolding read_of
-returns-in-At-mixed c =
-    c.mistyped-in-At-mixed.ensures
-    ∙ simp (sym c.unlike_beginning-unlike.ensures ∙ c.in-Nowhere.is, sym c.mixed_at-mixed.ensures ∙ c.in-At-mixed.is)
+returns-in-Some-mixed_at c =
+    c.mistyped-in-Some-mixed_at.ensures
+    ∙ simp (sym c.unlike_beginning.ensures ∙ c.in_default.is, sym c.mixed_at.ensures ∙ c.in-Some-mixed_at.is)
 
-pub returns-in-At-unknown : goal.returns-in-At-unknown
+pub returns-in-Some-first_from : goal.returns-in-Some-first_from
 unfolding read_of unknown_at
-returns-in-At-unknown c =
-    c.mistyped-in-At-unknown.ensures
-    ∙ simp (sym c.unlike_beginning-unlike.ensures ∙ c.in-Nowhere.is, sym c.mixed_at-mixed.ensures ∙ c.in-Nowhere-mixed.is, sym c.first_from-unknown.ensures ∙ c.in-At-unknown.is)
+returns-in-Some-first_from c =
+    c.mistyped-in-Some-first_from.ensures
+    ∙ simp (sym c.unlike_beginning.ensures ∙ c.in_default.is, sym c.mixed_at.ensures ∙ c.in_default-mixed_at.is, sym (c.first_from.ensures is_unknown (search rules)) ∙ c.in-Some-first_from.is)
 
-pub returns-in-Nowhere-unknown : goal.returns-in-Nowhere-unknown
+pub returns : goal.returns
 unfolding read_of unknown_at
-returns-in-Nowhere-unknown c =
-    c.read_values.ensures ∙ simp (sym c.unlike_beginning-unlike.ensures ∙ c.in-Nowhere.is, sym c.mixed_at-mixed.ensures ∙ c.in-Nowhere-mixed.is, sym c.first_from-unknown.ensures ∙ c.in-Nowhere-unknown.is)
+returns c =
+    c.read_values.ensures
+    ∙ simp (sym c.unlike_beginning.ensures ∙ c.in_default.is, sym c.mixed_at.ensures ∙ c.in_default-mixed_at.is, sym (c.first_from.ensures is_unknown (search rules)) ∙ c.in_default-first_from.is)

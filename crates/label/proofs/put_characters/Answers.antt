@@ -1,9 +1,7 @@
 -- The first i of the values' characters stand in the other list.
-use mathlib.Core.Path.{sym, ◌∙◌}
-use Prim.Native.Nat.{◌-◌}
-use native.Mathlib.Omega.{arith}
+use Rattle.std.proofs.Common.{ℕ, ◌+◌, List, map, set, sym, ap, ap₂, ◌∙◌, add-one, arith}
 use lib.ListN.{length-map}
-use Rattle.words.proofs.Copies.{pasted-more}
+use lib.Seq.{paste, paste-suc}
 use Rattle.bech32m.specs.Checksum.{character_of}
 use Rattle.label.proofs.Putting.{character-at}
 use Rattle.label.proofs.put_characters.Goals as goal
@@ -11,6 +9,9 @@ use Rattle.label.proofs.put_characters.Goals as goal
 pub loop-i-preserved : goal.loop-i-preserved
 loop-i-preserved c =
     let args = c.args in
-    let here = c.loop-i in
-    let less = c.loop-i-test.true in
-    pasted-more _ _ _ _ here.i _ here.out (omega arith) (omega (arith, length-map args.values.now character_of)) less (character-at args.values.now here.i less ∙ sym c.character_of.ensures) here.invariant
+    let i = c.loop-i.i in
+    let characters = map character_of args.values.now in
+    let long = length-map args.values.now character_of in
+    ap₂ (λ (m : List ℕ) (b : ℕ). set m (args.at + i) b) c.loop-i.invariant (c.character_of.ensures ∙ sym (character-at args.values.now i (omega arith)))
+    ∙ paste-suc args.out.now args.at characters i 0 (omega arith) (omega arith)
+    ∙ ap (paste args.out.now args.at characters) (sym (add-one i))

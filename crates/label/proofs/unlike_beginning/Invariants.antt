@@ -1,12 +1,8 @@
--- What the characters from place i on answer is what all answer.
-use mathlib.Core.Path.{◌≡◌}
-use Prim.Native.Nat.{◌-◌}
-use lib.ListN.{drop}
-use Rattle.label.specs.Label.{beginning, unlike_from}
+-- The characters before place i are like the beginning's.
+use Rattle.std.specs.Prelude.{ℕ, ◌<◌}
+use Rattle.label.specs.Label.{beginning}
+use Rattle.label.proofs.Unlike.{Like}
 use Rattle.label.proofs.unlike_beginning.Given as goal
 
 abbrev pub invariant-loop-i : goal.invariant-loop-i
-invariant-loop-i l = unlike_from l.i (drop l.i beginning) (drop l.i l.text) ≡ unlike_from 0 beginning l.text
-
-abbrev pub decreases-loop-i : goal.decreases-loop-i
-decreases-loop-i l = 5 - l.i
+invariant-loop-i l = (k : ℕ) → k < l.i → Like beginning l.text k
