@@ -1,5 +1,6 @@
 -- `last` is the cell of the record before i, and up to there each record is below the next one.
-use Rattle.std.proofs.Common.{◌≡◌, sym, ◌∙◌, ℕ, suc, ◌+◌, ◌-◌, ◌*◌, ◌≤◌, Bool, List, arith, rules}
+use Rattle.std.proofs.Common.{◌≡◌, sym, ℕ, suc, ◌+◌, ◌-◌, ◌*◌, ◌≤◌, Bool, List, true, false, arith, rules}
+use Rattle.std.proofs.lemmas.Bool.Decides.{nat_tests}
 use borrow.Author.Count.{below_more}
 use Rattle.refusal.specs.declared.Cell.{Cell}
 use Rattle.cell.specs.Cell.{less_cell}
@@ -28,14 +29,14 @@ returns-then-not-less c =
     omega (
       arith,
       falls args.width args.table.now args.count (here.i - 1) (omega arith) (λ k h. here.invariant.rising k (omega arith))
-          (compared args.width args.table.now here.i here.auto.i here.invariant.read c.read_at-next.ensures (sym c.less.ensures ∙ c.if-not-less.true)),
+          (compared args.width args.table.now here.i {t = false} here.auto.i here.invariant.read c.read_at-next.ensures (grind (arith, nat_tests))),
     )
 
 pub loop-i-preserved : goal.loop-i-preserved
 loop-i-preserved c =
     let args = c.args in
     let here = c.loop-i in
-    let rise = compared args.width args.table.now here.i here.auto.i here.invariant.read c.read_at-next.ensures (sym c.less.ensures ∙ c.if-not-less.false) in
+    let rise = compared args.width args.table.now here.i {t = true} here.auto.i here.invariant.read c.read_at-next.ensures (grind (arith, nat_tests)) in
     record {
       read = let same : here.i + 1 - 1 ≡ here.i = omega arith in rw (same, row-cell) (search rules);
       rising = λ k h. below_more (Rises args.width args.table.now) (here.i - 1) (λ j b. here.invariant.rising j (omega arith)) rise k (omega arith);
