@@ -1,4 +1,3 @@
 pub mod Theorems
 pub mod Points
 pub mod Room
-pub mod Filled

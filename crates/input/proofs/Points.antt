@@ -7,7 +7,7 @@ use lib.ListN.{replicate}
 use Rattle.words.specs.Word.{number, ordered}
 use Rattle.survey.specs.declared.WriteAnswer.TheVariants.{Written}
 use Rattle.report_text.specs.Summary.{report_of}
-use Rattle.input.specs.declared.InputAnswer.TheVariants.{Reported, Failed}
+use Rattle.std.specs.Prelude.{Ok, Err}
 use Rattle.input.specs.Input.{Reports}
 
 -- hex 0001 0000 0000 0000 00000010 00000010
@@ -22,10 +22,10 @@ lines =
     118 ∷ 97 ∷ 108 ∷ 117 ∷ 101 ∷ 115 ∷ 32 ∷ 48 ∷ 10 ∷ []
 
 -- the contract lets through the report on the document's file
-three-lines : Reports (Reported (Written 27)) (replicate 28 255) (lines ++ (255 ∷ []))
+three-lines : (E : Type 0) → Reports {E = E} (Ok (Written 27)) (replicate 28 255) (lines ++ (255 ∷ []))
 unfolding report_of number ordered
-three-lines = (document, (omega arith, refl))
+three-lines E = (document, (omega arith, refl))
 
 -- and of the same call that a read failed: what is read is not in the contract
-read-failed : Reports Failed (replicate 28 255) (replicate 28 255)
-read-failed = refl
+read-failed : {E : Type 0} (why : E) → Reports (Err why) (replicate 28 255) (replicate 28 255)
+read-failed why = refl

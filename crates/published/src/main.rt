@@ -4,53 +4,31 @@
 // the address's own characters.
 #![tactic(auto)]
 
-ghost use Rattle.std.specs.Prelude.{◌≤◌, length};
-ghost use Rattle.std.specs.Io.{ReadsAtMost};
-
 use cell::CellAnswer;
 use refusal::Cell;
 use std::io;
-use std::io::Read;
-
-// The end of the line that begins at a place.
-fn line_end(list: &[u8], from: usize) -> usize
-    requires { from ≤ length list.now }
-    ensures { (from ≤ result) × (result ≤ length list.now) }
-{
-    let mut i = from;
-    while i < list.len() {
-        if list[i] == 10 {
-            return i;
-        }
-        i += 1;
-    }
-    i
-}
 
 // What the reader of labels says of a string.
 fn print_label_refusal(rt: &HostRuntime, text: &[u8]) -> io::Result<()> {
-    let read = label::from_bech32m(text);
-    if let CellAnswer::Refused(r) = read {
-        let row = refusal::row_of(r);
-        print!(rt; "{} at {}", row.number, row.place)
-    } else {
-        print!(rt; "a cell")
+    match label::from_bech32m(text) {
+        CellAnswer::Refused(why) => {
+            let row = refusal::row_of(why);
+            print!(rt; "{} at {}", row.number, row.place)
+        }
+        CellAnswer::Is(_) => print!(rt; "a cell"),
     }
 }
 
 // One string, and whether it is valid by BIP 350.
 fn print_string(rt: &HostRuntime, text: &[u8], published: bool) -> io::Result<()> {
     let valid = bech32m::is_valid(text);
-    if valid == published {
-        print!(rt; "agrees, ")?;
+    let agrees = if valid == published {
+        "agrees"
     } else {
-        print!(rt; "DIFFERS, ")?;
-    }
-    if valid {
-        print!(rt; "valid, ")?;
-    } else {
-        print!(rt; "not valid, ")?;
-    }
+        "DIFFERS"
+    };
+    let said = if valid { "valid" } else { "not valid" };
+    print!(rt; "{agrees}, {said}, ")?;
     print_label_refusal(rt, text)?;
     print!(rt; ": ")?;
     rt.write_all(text)
@@ -58,47 +36,24 @@ fn print_string(rt: &HostRuntime, text: &[u8], published: bool) -> io::Result<()
 
 // One line without its end.
 fn print_line(rt: &HostRuntime, line: &[u8]) -> io::Result<()> {
-    if line.len() > 0 {
-        let sign = line[0];
-        if sign == 43 {
-            print_string(rt, &line[1..], true)?;
-        } else if sign == 45 {
-            print_string(rt, &line[1..], false)?;
-        } else {
-            rt.write_all(line)?;
-        }
+    match line {
+        [b'+', text @ ..] => print_string(rt, text, true)?,
+        [b'-', text @ ..] => print_string(rt, text, false)?,
+        _ => rt.write_all(line)?,
     }
     println!(rt; "")
 }
 
 fn print_lines(rt: &HostRuntime, list: &[u8]) -> io::Result<()> {
-    let mut at = 0;
-    while at < list.len() {
-        let end = line_end(list, at);
-        print_line(rt, &list[at..end])?;
-        at = end + 1;
+    for line in list.split_inclusive(|b| *b == b'\n') {
+        print_line(rt, line.strip_suffix(b"\n").unwrap_or(line))?;
     }
     Ok(())
 }
 
-// Reads until the buffer is full or the input ends, and answers with how many bytes stand at its front.
-fn read_whole(from: &mut impl Read, buffer: &mut [u8]) -> io::Result<usize>
-    ensures { ReadsAtMost result buffer.new }
-{
-    let mut done = 0;
-    while done < buffer.len() {
-        let more = from.read(&mut buffer[done..])?;
-        if more == 0 {
-            return Ok(done);
-        }
-        done += more;
-    }
-    Ok(done)
-}
-
 fn main(rt: HostRuntime) -> io::Result<()> {
     let mut list = [0u8; 65536];
-    let size = read_whole(&mut rt.stdin(), &mut list)?;
+    let size = input::read_whole(&mut rt.stdin(), &mut list)?;
     print_lines(&rt, &list[..size])?;
     let address = Cell {
         high: 0x751e76e8199196d4,

@@ -2,23 +2,16 @@
 // standard output, and a line that says why on standard error.
 #![tactic(auto)]
 
-use input::{InputAnswer, Source};
 use std::io;
 use survey::WriteAnswer;
 
 // A report has 84 bytes at most (`report-short`, report_text/proofs/Room.antt), so there is always room for it here.
 fn main(rt: HostRuntime) -> io::Result<()> {
     let mut text = [0u8; 96];
-    let mut source = Source::new(rt.stdin());
-    let answer = input::report(&mut source, &mut text);
-    let InputAnswer::Reported(said) = answer else {
-        return input::say_unread(&rt, "report: cannot read", &source);
+    let size = match input::report(&mut rt.stdin(), &mut text) {
+        Ok(WriteAnswer::Written(size)) => size,
+        Ok(WriteAnswer::Refused(_)) => return Ok(()),
+        Err(why) => return input::say_failure(&rt, "report: cannot read", &why),
     };
-    let WriteAnswer::Written(size) = said else {
-        return Ok(());
-    };
-    match rt.write_all(&text[..size]) {
-        Ok(()) => Ok(()),
-        Err(why) => input::say_failure(&rt, "report: cannot write", &why),
-    }
+    rt.write_all(&text[..size]).or_else(|why| input::say_failure(&rt, "report: cannot write", &why))
 }

@@ -2,7 +2,6 @@
 // what must be printed.
 #![tactic(auto)]
 
-use input::InputAnswer;
 use std::env::{Env, FillError};
 use std::fs::File;
 use std::{fs, io, str};
@@ -11,13 +10,10 @@ use survey::WriteAnswer;
 // Prints the report on a file that is open.
 fn print_text(rt: &HostRuntime, opened: &mut File) -> io::Result<()> {
     let mut text = [0u8; 96];
-    let answer = input::report(opened, &mut text);
-    if let InputAnswer::Reported(said) = answer {
-        if let WriteAnswer::Written(size) = said {
-            rt.write_all(&text[..size])?;
-        }
+    match input::report(opened, &mut text) {
+        Ok(WriteAnswer::Written(size)) => rt.write_all(&text[..size]),
+        _ => Ok(()),
     }
-    Ok(())
 }
 
 // The report on the file of this name, below its name.

@@ -2,7 +2,6 @@
 // write fails it prints no more on standard output, and a line that says why on standard error.
 #![tactic(auto)]
 
-use input::{ReadAnswer, Source};
 use std::io;
 use survey::WriteAnswer;
 
@@ -10,18 +9,17 @@ use survey::WriteAnswer;
 // buffer the first bytes tell all (`longer`, there).
 fn main(rt: HostRuntime) -> io::Result<()> {
     let mut file = [0u8; 65536];
-    let mut source = Source::new(rt.stdin());
-    let read = input::read_whole(&mut source, &mut file);
-    let ReadAnswer::Read(size) = read else {
-        return input::say_unread(&rt, "rewrite: cannot read", &source);
+    let size = match input::read_whole(&mut rt.stdin(), &mut file) {
+        Ok(size) => size,
+        Err(why) => return input::say_failure(&rt, "rewrite: cannot read", &why),
     };
     let mut out = [0u8; 65536];
-    let said = rewrite_bytes::rewrite(&file[..size], &mut out);
-    let WriteAnswer::Written(length) = said else {
+    let WriteAnswer::Written(length) = rewrite_bytes::rewrite(&file[..size], &mut out) else {
         return Ok(());
     };
-    match rt.write_all(&out[..length]) {
-        Ok(()) => Ok(()),
-        Err(why) => input::say_failure(&rt, "rewrite: cannot write", &why),
-    }
+    rt.write_all(&out[..length]).or_else(|why| input::say_failure(
+        &rt,
+        "rewrite: cannot write",
+        &why,
+    ))
 }
