@@ -31,19 +31,18 @@ module _ {A B : Type 0} (f : A → List B) where
     length-flat_map [] = omega arith
     length-flat_map (a ∷ l) = rw (length-append, even, length-flat_map l, mul-suc) (omega arith)
 
--- the elements of the first i of n items stand at the front of `out`, which was `before`
-pub record Written {A B : Type 0} (n k : ℕ) (f : A → List B) (items : List A) (before out : List B) (i : ℕ) : Type 0 where
-  pub within : i ≤ n
-  pub long : length items ≡ n
-  pub room : k * n ≤ length before
+-- the elements of the first i items stand at the front of `out`, which was `before`
+pub record Written {A B : Type 0} (k : ℕ) (f : A → List B) (items : List A) (before out : List B) (i : ℕ) : Type 0 where
+  pub within : i ≤ length items
+  pub room : k * length items ≤ length before
   pub done : out ≡ flat_map f (take i items) ++ drop (k * i) before
 
-module _ {A B : Type 0} {n k : ℕ} {f : A → List B} {items : List A} {before : List B} where
-  pub written_none : length items ≡ n → k * n ≤ length before → Written n k f items before before 0
+module _ {A B : Type 0} {k : ℕ} {f : A → List B} {items : List A} {before : List B} where
+  pub written_none : k * length items ≤ length before → Written k f items before before 0
   unfolding flat_map
-  written_none e h = record { within = omega arith; long = e; room = h; done = rw mul-zero }
+  written_none h = record { within = omega arith; room = h; done = rw mul-zero }
 
-module _ {A B : Type 0} {n k : ℕ} {f : A → List B} {items : List A} {before out : List B} {i : ℕ} (even : (a : A) → length (f a) ≡ k) (w : Written n k f items before out i) where
+module _ {A B : Type 0} {k : ℕ} {f : A → List B} {items : List A} {before out : List B} {i : ℕ} (even : (a : A) → length (f a) ≡ k) (w : Written k f items before out i) where
   abbrev front : List B
   front = flat_map f (take i items)
 
@@ -51,49 +50,40 @@ module _ {A B : Type 0} {n k : ℕ} {f : A → List B} {items : List A} {before 
   rest = drop (k * i) before
 
   long-front : length front ≡ k * i
-  long-front = length-flat_map f k even (take i items) ∙ ap (λ (m : ℕ). k * m) (length-take-le i items (omega (arith, w.within, w.long)))
-
-  pub written-length : length out ≡ length before
-  written-length =
-      let upto : k * i ≤ k * n = mul-le-mul_left k w.within in
-      ap length w.done
-      ∙ length-append front rest
-      ∙ omega (arith, long-front, length-drop (k * i) before, upto, w.room)
+  long-front = length-flat_map f k even (take i items) ∙ ap (λ (m : ℕ). k * m) (length-take-le i items w.within)
 
   -- one item more, and there is room for it
   more : k * (i + 1) ≡ k * i + k
   more = rw add-one (mul-suc k i)
 
-  pub written-room : i < n → k * i + k ≤ length out
-  written-room less =
-      let upto : k * (i + 1) ≤ k * n = mul-le-mul_left k (omega arith) in
-      omega (arith, written-length, more, upto, w.room)
+  pub written_room : i < length items → k * i + k ≤ length out
+  written_room less =
+      let upto : k * (i + 1) ≤ k * length items = mul-le-mul_left k (omega arith) in
+      omega (arith, ap length w.done, length-append front rest, long-front, length-drop (k * i) before, more, upto, w.room)
 
-  pub written-more : (d : A) {next : List B} → i < n → next ≡ sets out (k * i) (f (get_or items i d)) → Written n k f items before next (i + 1)
-  written-more d less stored =
+  pub written_more : (d : A) {next : List B} → i < length items → next ≡ sets out (k * i) (f (get_or items i d)) → Written k f items before next (i + 1)
+  written_more d less stored =
       let item = f (get_or items i d) in
       let long : length item ≡ k = even (get_or items i d) in
       let ahead : take (k * i) out ≡ front = ap (take (k * i)) w.done ∙ take_at front rest (k * i) long-front in
       let behind : drop (k * i + length item) out ≡ drop (k * (i + 1)) before =
       (λ j. drop (sym long-front j + long j) (w.done j)) ∙ drop-append-add front rest k ∙ drop-drop k (k * i) before ∙ ap (λ (m : ℕ). drop m before) (sym more) in
       let joined : front ++ item ≡ flat_map f (take (i + 1) items) =
-      sym (rw add-one (ap (flat_map f) (take-suc items i d (omega (arith, w.long))) ∙ flat_map-append f (take i items) (get_or items i d ∷ []) ∙ ap (λ (l : List B). front ++ l) (flat_map-one f (get_or items i d)))) in
+      sym (rw add-one (ap (flat_map f) (take-suc items i d less) ∙ flat_map-append f (take i items) (get_or items i d ∷ []) ∙ ap (λ (l : List B). front ++ l) (flat_map-one f (get_or items i d)))) in
       record {
         within = omega arith;
-        long = w.long;
         room = w.room;
         done =
             stored
-            ∙ sets-eq item out (k * i) (omega (arith, long, written-room less))
+            ∙ sets-eq item out (k * i) (omega (arith, long, written_room less))
             ∙ (λ j. ahead j ++ item ++ behind j)
             ∙ ap (λ (l : List B). l ++ drop (k * (i + 1)) before) joined;
       }
 
-  pub written_all : n ≤ i → out ≡ fronted (flat_map f items) before
+  pub written_all : length items ≤ i → out ≡ fronted (flat_map f items) before
   written_all past =
-      let all : i ≡ length items = omega (arith, w.within, w.long) in
-      let size : k * i ≡ length (flat_map f items) = ap (λ (m : ℕ). k * m) all ∙ sym (length-flat_map f k even items) in
-      w.done ∙ (λ j. flat_map f (take_all i items (omega arith) j) ++ drop (size j) before)
+      let size : k * i ≡ length (flat_map f items) = sym (length-flat_map f k even items ∙ ap (λ (m : ℕ). k * m) (omega (arith, w.within))) in
+      w.done ∙ (λ j. flat_map f (take_all i items past j) ++ drop (size j) before)
 
 -- ---- a lent buffer's answer by the tests that led to it
 

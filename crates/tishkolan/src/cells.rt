@@ -249,27 +249,13 @@ pub fn tishkolan_cell_manhattan_distance(first: &[u8], second: &[u8]) -> NumberT
     }
 }
 
-// The bytes of 14 cells, at the front.
-fn put_neighbors(out: &mut [u8], cells: [Cell; 14])
-    requires { 14 * cell_width ≤ length out.old }
-    ensures { out.new ≡ fronted (cells_bytes cells) out.old }
+// The bytes of these cells, at the front.
+fn put_cells(out: &mut [u8], cells: &[Cell])
+    requires { cell_width * length cells.now ≤ length out.old }
+    ensures { out.new ≡ fronted (cells_bytes cells.now) out.old }
 {
-    let mut i = 0;
-    while i < 14 {
-        cell::write_at(out, cell::CELL_WIDTH * i, cells[i]);
-        i += 1;
-    }
-}
-
-// The bytes of 8 cells, at the front.
-fn put_children(out: &mut [u8], cells: [Cell; 8])
-    requires { 8 * cell_width ≤ length out.old }
-    ensures { out.new ≡ fronted (cells_bytes cells) out.old }
-{
-    let mut i = 0;
-    while i < 8 {
-        cell::write_at(out, cell::CELL_WIDTH * i, cells[i]);
-        i += 1;
+    for (i, c) in cells.iter().enumerate() {
+        cell::write_at(out, cell::CELL_WIDTH * i, *c);
     }
 }
 
@@ -290,7 +276,7 @@ pub fn tishkolan_cell_neighbors(cell: &[u8], out: &mut [u8]) -> RefusalTold
                     if out.len() < NEIGHBORS_WIDTH {
                         return face::told(Refusal::NoRoom(Room::Output));
                     }
-                    put_neighbors(out, cells);
+                    put_cells(out, &cells);
                     face::answered()
                 }
             }
@@ -315,7 +301,7 @@ pub fn tishkolan_cell_children(cell: &[u8], out: &mut [u8]) -> RefusalTold
                     if out.len() < CHILDREN_WIDTH {
                         return face::told(Refusal::NoRoom(Room::Output));
                     }
-                    put_children(out, cells);
+                    put_cells(out, &cells);
                     face::answered()
                 }
             }

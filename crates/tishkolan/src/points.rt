@@ -57,35 +57,18 @@ fn put_place(out: &mut [i32], at: usize, c: Coord)
     requires { at + 3 ≤ length out.old }
     ensures { out.new ≡ sets out.old at (triple c) }
 {
-    let x = c.x;
-    let y = c.y;
-    let z = c.z;
-    out[at] = x;
-    out[at + 1] = y;
-    out[at + 2] = z;
+    out[at] = c.x;
+    out[at + 1] = c.y;
+    out[at + 2] = c.z;
 }
 
-// The coordinates of 14 places, at the front.
-fn put_neighbors(out: &mut [i32], places: [Coord; 14])
-    requires { 14 * 3 ≤ length out.old }
-    ensures { out.new ≡ fronted (triples places) out.old }
+// The coordinates of these places, at the front.
+fn put_places(out: &mut [i32], places: &[Coord])
+    requires { 3 * length places.now ≤ length out.old }
+    ensures { out.new ≡ fronted (triples places.now) out.old }
 {
-    let mut i = 0;
-    while i < 14 {
-        put_place(out, PLACE_LENGTH * i, places[i]);
-        i += 1;
-    }
-}
-
-// The coordinates of 8 places, at the front.
-fn put_children(out: &mut [i32], places: [Coord; 8])
-    requires { 8 * 3 ≤ length out.old }
-    ensures { out.new ≡ fronted (triples places) out.old }
-{
-    let mut i = 0;
-    while i < 8 {
-        put_place(out, PLACE_LENGTH * i, places[i]);
-        i += 1;
+    for (i, c) in places.iter().enumerate() {
+        put_place(out, PLACE_LENGTH * i, *c);
     }
 }
 
@@ -102,7 +85,7 @@ pub fn tishkolan_lattice_neighbors(x: i32, y: i32, z: i32, out: &mut [i32]) -> R
             if out.len() < NEIGHBORS_LENGTH {
                 return face::told(Refusal::NoRoom(Room::Output));
             }
-            put_neighbors(out, places);
+            put_places(out, &places);
             face::answered()
         }
     }
@@ -121,7 +104,7 @@ pub fn tishkolan_lattice_children(x: i32, y: i32, z: i32, out: &mut [i32]) -> Re
             if out.len() < CHILDREN_LENGTH {
                 return face::told(Refusal::NoRoom(Room::Output));
             }
-            put_children(out, places);
+            put_places(out, &places);
             face::answered()
         }
     }

@@ -55,5 +55,5 @@ pub returns-else-out-lt-CHILDREN_WIDTH : goal.returns-else-out-lt-CHILDREN_WIDTH
 returns-else-out-lt-CHILDREN_WIDTH c =
     let out = c.args.out.now in
     let size : length (cells_bytes c.get_children-found.result.cells) ≡ 128 = long (goal.at.returns-else-out-lt-CHILDREN_WIDTH c).After-get_children-found in
-    fill-front _ out c.in-Answered.is (omega arith) c.answered.ensures c.put_children.ensures
+    fill-front _ out c.in-Answered.is (omega arith) c.answered.ensures c.put_cells.ensures
     ∙ by-found (goal.at.returns-else-out-lt-CHILDREN_WIDTH c).After-get_children-found

@@ -55,5 +55,5 @@ pub returns-else-out-lt-NEIGHBORS_WIDTH : goal.returns-else-out-lt-NEIGHBORS_WID
 returns-else-out-lt-NEIGHBORS_WIDTH c =
     let out = c.args.out.now in
     let size : length (cells_bytes c.get_neighbors-found.result.cells) ≡ 224 = long (goal.at.returns-else-out-lt-NEIGHBORS_WIDTH c).After-get_neighbors-found in
-    fill-front _ out c.in-Answered.is (omega arith) c.answered.ensures c.put_neighbors.ensures
+    fill-front _ out c.in-Answered.is (omega arith) c.answered.ensures c.put_cells.ensures
     ∙ by-found (goal.at.returns-else-out-lt-NEIGHBORS_WIDTH c).After-get_neighbors-found

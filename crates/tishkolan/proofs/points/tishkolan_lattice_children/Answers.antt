@@ -42,5 +42,5 @@ returns-else-out-lt-CHILDREN_LENGTH c =
     let numbers = triples c.get_children-found.result.coords in
     let out = c.args.out.now in
     let size : length numbers ≡ 24 = long (goal.at.returns-else-out-lt-CHILDREN_LENGTH c).After-get_children-found in
-    fill-front numbers out c.in-Answered.is (omega arith) c.answered.ensures c.put_children.ensures
+    fill-front numbers out c.in-Answered.is (omega arith) c.answered.ensures c.put_places.ensures
     ∙ by-found (goal.at.returns-else-out-lt-CHILDREN_LENGTH c).After-get_children-found

@@ -42,5 +42,5 @@ returns-else-out-lt-NEIGHBORS_LENGTH c =
     let numbers = triples c.get_neighbors-found.result.coords in
     let out = c.args.out.now in
     let size : length numbers ≡ 42 = long (goal.at.returns-else-out-lt-NEIGHBORS_LENGTH c).After-get_neighbors-found in
-    fill-front numbers out c.in-Answered.is (omega arith) c.answered.ensures c.put_neighbors.ensures
+    fill-front numbers out c.in-Answered.is (omega arith) c.answered.ensures c.put_places.ensures
     ∙ by-found (goal.at.returns-else-out-lt-NEIGHBORS_LENGTH c).After-get_neighbors-found
