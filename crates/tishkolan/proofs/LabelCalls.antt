@@ -1,6 +1,6 @@
 -- What the two calls on labels say of each other, over their own contracts: what `tishkolan_cell_to_bech32m` leaves is read as the cell (`label-read-back`), and what is read as a cell is
 -- what it leaves of that cell, or that in upper case (`label-read-alone`). And what BIP 350 says of the strings that are read (`label-told-exactly`).
-use mathlib.Core.Path.{◌≡◌, refl, sym, ap, subst, ◌∙◌}
+use mathlib.Core.Path.{◌≡◌, refl, sym, ap, ◌∙◌}
 use mathlib.Core.List.{List, map}
 use mathlib.Core.Logic.{◌↔◌, ◌⊎◌, ⊎_elim, inl, inr}
 use Prim.Native.Nat.{ℕ, ◌≤◌}
@@ -14,7 +14,6 @@ use Rattle.refusal.proofs.Numbers.{refused-number}
 use Rattle.words.specs.Word.{Bytes}
 use Rattle.cell.specs.declared.CellAnswer.{CellAnswer}
 use Rattle.cell.specs.declared.CellAnswer.TheVariants.{Is, Refused}
-use Rattle.cell.specs.Terms.{Words}
 use Rattle.cell.specs.Bytes.{cell_bytes, cell_width, from_bytes_of, by_cell}
 use Rattle.cell.proofs.BytesLaws.{bytes-read-back, read-bytes-back, read-words}
 use Rattle.cell_list.proofs.ReadBack.{read_cell}
@@ -23,13 +22,12 @@ use Rattle.label.specs.Terms.{uppered, IsLabel}
 use Rattle.label.proofs.Labels.{length_label, words-read, read-written, one_label}
 use Rattle.label.proofs.Bech32m.{label-is-bech32m, padding-of-label}
 use Rattle.face.specs.declared.RefusalTold.{RefusalTold}
-use Rattle.face.specs.declared.PlaceTold.{PlaceTold}
-use Rattle.face.specs.Told.{answered, Filled, filled, fill}
+use Rattle.face.specs.Told.{Filled, filled, fill}
 use Rattle.face.specs.Cells.{unfilled, fill_cell}
 use Rattle.face.specs.Labels.{label_told, PlaceFilled, place_filled, place_in, at_place, cell_told}
 use Rattle.face.specs.Terms.{no_mistake}
 use Rattle.tishkolan.proofs.Filling.{front-filled}
-use Rattle.tishkolan.proofs.Packing.{Made, made, filled-front}
+use Rattle.tishkolan.proofs.Packing.{made, filled-front}
 use Rattle.tishkolan.proofs.Calls.{CellToBech32m, named, label_left, CellFromBech32m, spelled, cell_lent, cell_left}
 
 -- where writing tells 0, it was handed a cell, and the cell's label stands at the front

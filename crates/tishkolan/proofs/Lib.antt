@@ -1,7 +1,6 @@
 pub mod Writing
 pub mod Places
 pub mod Given
-pub mod Found
 pub mod OneAnswer
 pub mod OneAnswerCells
 pub mod OneAnswerLabels

@@ -7,7 +7,6 @@ use Rattle.refusal.specs.declared.Spent.{Spent}
 use Rattle.refusal.specs.declared.Refusal.{Refusal}
 use Rattle.refusal.specs.declared.Refusal.TheVariants.{SearchLimitExceeded}
 use Rattle.refusal.proofs.Numbers.{numbered-seven}
-use Rattle.words.specs.Word.{number}
 use Rattle.known.specs.Workspace.{in_rooms}
 use Rattle.search.specs.declared.SearchAnswer.{SearchAnswer}
 use Rattle.search.specs.declared.SearchAnswer.TheVariants as answer

@@ -15,7 +15,7 @@ use Rattle.refusal.specs.declared.Room.TheVariants.{Output}
 use Rattle.refusal.specs.declared.Refusal.TheVariants.{NoRoom}
 use Rattle.refusal.specs.declared.Outcome.TheVariants as outcome
 use Rattle.refusal.proofs.Numbers.{refused-number}
-use Rattle.words.specs.Word.{Bytes, number}
+use Rattle.words.specs.Word.{Bytes}
 use Rattle.lattice.specs.declared.Parity.TheVariants.{Even, Odd}
 use Rattle.lattice.specs.Lattice.{at, is_odd, is_lattice_point}
 use Rattle.lattice.proofs.Laws.{point-parity}

@@ -13,8 +13,8 @@ use mir.Facts.{to_z-of_z}
 use Rattle.refusal.specs.declared.Coord.{Coord}
 use Rattle.lattice.specs.declared.ParityAnswer.{ParityAnswer}
 use Rattle.lattice.specs.declared.ParityAnswer.TheVariants.{Is, Refused}
-use Rattle.lattice.specs.Lattice.{at, parity_of, neighbor_steps, neighbor_places, has_neighbor_room, neighbors_of, child_steps, child_places, has_child_room, children_of}
-use Rattle.lattice.proofs.Split.{neighbors_in, neighbors_by, children_in, children_by}
+use Rattle.lattice.specs.Lattice.{at, parity_of, child_steps, child_places, has_child_room, children_of}
+use Rattle.lattice.proofs.Split.{children_in, children_by}
 use Rattle.face.specs.Points.{triple}
 
 -- a place is that of its coordinates' bits
@@ -28,20 +28,7 @@ sets-three l p c =
     let two : p + 2 ≡ suc (suc p) = omega arith in
     rw (one, two)
 
--- ---- how many there are, refused or not
-
-neighbors-in : (roomy : Bool) (c : Coord) → length (neighbors_in roomy c).coords ≡ 14
-unfolding neighbor_places neighbor_steps
-neighbors-in true c = refl
-neighbors-in false c = refl
-
-neighbors-by : (a : ParityAnswer) (c : Coord) → length (neighbors_by a c).coords ≡ 14
-neighbors-by (Refused r) c = refl
-neighbors-by (Is p) c = neighbors-in (has_neighbor_room c) c
-
-pub neighbors-long : (c : Coord) → length (neighbors_of c).coords ≡ 14
-unfolding neighbors_of
-neighbors-long c = neighbors-by (parity_of c) c
+-- ---- how many children there are, refused or not
 
 children-in : (roomy : Bool) (c : Coord) → length (children_in roomy c).coords ≡ 8
 unfolding child_places child_steps

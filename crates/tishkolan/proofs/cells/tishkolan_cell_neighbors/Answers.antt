@@ -12,7 +12,6 @@ use Rattle.cell.proofs.Stored.{length-cell_bytes}
 use Rattle.face.specs.Told.{Filled, filled, fill}
 use Rattle.face.specs.Cells.{unfilled, cells_bytes, neighbors_told}
 use Rattle.tishkolan.proofs.Given.{on-cell}
-use Rattle.tishkolan.proofs.Found.{neighbors-long}
 use Rattle.tishkolan.proofs.Writing.{length-flat_map, fill-refused, fill-no-room, fill-front}
 use Rattle.tishkolan.proofs.cells.tishkolan_cell_neighbors.Goals as goal
 use Rattle.tishkolan.proofs.cells.tishkolan_cell_neighbors.Goals.{After-get_neighbors-found}
@@ -29,16 +28,10 @@ by-found c =
     let out = c.args.out.now in
     ap (put out) c.get_neighbors-found.ensures ∙ by-cell _ out c.from_bytes-given.ensures c.in-Is.is
 
-long : (c : After-get_neighbors-found) → length (cells_bytes c.get_neighbors-found.result.cells) ≡ 224
-long c =
-    length-flat_map cell_bytes 16 length-cell_bytes c.get_neighbors-found.result.cells
-    ∙ ap (λ (n : Neighbors). 16 * length n.cells) c.get_neighbors-found.ensures
-    ∙ ap (λ (n : ℕ). 16 * n) (neighbors-long _)
-
 pub returns-then-out-lt-NEIGHBORS_WIDTH : goal.returns-then-out-lt-NEIGHBORS_WIDTH
 returns-then-out-lt-NEIGHBORS_WIDTH c =
     let out = c.args.out.now in
-    let size : length (cells_bytes c.get_neighbors-found.result.cells) ≡ 224 = long (goal.at.returns-then-out-lt-NEIGHBORS_WIDTH c).After-get_neighbors-found in
+    let size : length (cells_bytes c.get_neighbors-found.result.cells) ≡ 16 * length c.get_neighbors-found.result.cells = length-flat_map cell_bytes 16 length-cell_bytes c.get_neighbors-found.result.cells in
     fill-no-room _ out c.in-Answered.is (omega arith) c.told-then-out-lt-NEIGHBORS_WIDTH.ensures ∙ by-found (goal.at.returns-then-out-lt-NEIGHBORS_WIDTH c).After-get_neighbors-found
 
 pub returns-in-Refused : goal.returns-in-Refused
@@ -54,6 +47,6 @@ returns-in-Refused-outcome c =
 pub returns-else-out-lt-NEIGHBORS_WIDTH : goal.returns-else-out-lt-NEIGHBORS_WIDTH
 returns-else-out-lt-NEIGHBORS_WIDTH c =
     let out = c.args.out.now in
-    let size : length (cells_bytes c.get_neighbors-found.result.cells) ≡ 224 = long (goal.at.returns-else-out-lt-NEIGHBORS_WIDTH c).After-get_neighbors-found in
+    let size : length (cells_bytes c.get_neighbors-found.result.cells) ≡ 16 * length c.get_neighbors-found.result.cells = length-flat_map cell_bytes 16 length-cell_bytes c.get_neighbors-found.result.cells in
     fill-front _ out c.in-Answered.is (omega arith) c.answered.ensures c.put_cells.ensures
     ∙ by-found (goal.at.returns-else-out-lt-NEIGHBORS_WIDTH c).After-get_neighbors-found

@@ -1,13 +1,13 @@
 -- Each answer by the tests that led to it: the outcome, then the room.
 use native.Mathlib.Omega.{arith}
-use Prim.Native.Nat.{ℕ, ◌*◌}
+use Prim.Native.Nat.{◌*◌}
 use mathlib.Core.Path.{◌≡◌, refl, ap, ◌∙◌}
 use lib.ListN.{length}
 use Rattle.lattice.specs.declared.Children.{Children}
 use Rattle.lattice.specs.Lattice.{at, children_of}
 use Rattle.face.specs.Told.{fill}
 use Rattle.face.specs.Points.{triple, triples, children_told}
-use Rattle.tishkolan.proofs.Places.{kept-place, children-long}
+use Rattle.tishkolan.proofs.Places.{kept-place}
 use Rattle.tishkolan.proofs.Writing.{length-flat_map, fill-refused, fill-no-room, fill-front}
 use Rattle.tishkolan.proofs.points.tishkolan_lattice_children.Goals as goal
 use Rattle.tishkolan.proofs.points.tishkolan_lattice_children.Goals.{After-get_children-found}
@@ -18,17 +18,11 @@ by-found c =
     let fits = c.ranges in
     ap (λ (n : Children). fill n.outcome (triples n.coords) c.args.out.now) (c.get_children-found.ensures ∙ ap children_of (kept-place fits.x fits.y fits.z))
 
-long : (c : After-get_children-found) → length (triples c.get_children-found.result.coords) ≡ 24
-long c =
-    length-flat_map triple 3 (λ p. refl) c.get_children-found.result.coords
-    ∙ ap (λ (n : Children). 3 * length n.coords) c.get_children-found.ensures
-    ∙ ap (λ (n : ℕ). 3 * n) (children-long _)
-
 pub returns-then-out-lt-CHILDREN_LENGTH : goal.returns-then-out-lt-CHILDREN_LENGTH
 returns-then-out-lt-CHILDREN_LENGTH c =
     let numbers = triples c.get_children-found.result.coords in
     let out = c.args.out.now in
-    let size : length numbers ≡ 24 = long (goal.at.returns-then-out-lt-CHILDREN_LENGTH c).After-get_children-found in
+    let size : length (triples c.get_children-found.result.coords) ≡ 3 * length c.get_children-found.result.coords = length-flat_map triple 3 (λ p. refl) c.get_children-found.result.coords in
     fill-no-room numbers out c.in-Answered.is (omega arith) c.told-then-out-lt-CHILDREN_LENGTH.ensures
     ∙ by-found (goal.at.returns-then-out-lt-CHILDREN_LENGTH c).After-get_children-found
 
@@ -41,6 +35,6 @@ pub returns-else-out-lt-CHILDREN_LENGTH : goal.returns-else-out-lt-CHILDREN_LENG
 returns-else-out-lt-CHILDREN_LENGTH c =
     let numbers = triples c.get_children-found.result.coords in
     let out = c.args.out.now in
-    let size : length numbers ≡ 24 = long (goal.at.returns-else-out-lt-CHILDREN_LENGTH c).After-get_children-found in
+    let size : length (triples c.get_children-found.result.coords) ≡ 3 * length c.get_children-found.result.coords = length-flat_map triple 3 (λ p. refl) c.get_children-found.result.coords in
     fill-front numbers out c.in-Answered.is (omega arith) c.answered.ensures c.put_places.ensures
     ∙ by-found (goal.at.returns-else-out-lt-CHILDREN_LENGTH c).After-get_children-found
