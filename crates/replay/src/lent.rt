@@ -17,18 +17,17 @@ const WORKSPACE_REFUSED: u8 = 11;
 
 // Whether the refusal and the count are the record's.
 pub fn same_count(record: &Record, told: RefusalTold, count: u64) -> bool {
-    recorded::same_refusal(record, told, 3, 41, 44) & (count == recorded::count(record, 42) as u64)
+    recorded::same_refusal(record, told, 3, 41, 44) && count == recorded::count(record, 42) as u64
 }
 
 // Whether a workspace is all zero as far as it was lent, or all as it was where it is refused. The record has its length at `at`.
 pub fn same_workspace(expected: &Record, record: &Record, at: usize, workspace: &Room) -> bool
     requires { at + 2 ≤ 320 }
 {
-    let length = recorded::count(record, at);
-    let whole = &workspace[..];
-    let lent = &whole[0..length];
-    if recorded::byte(expected, 3) == WORKSPACE_REFUSED {
-        return recorded::filled(lent, BEFORE);
-    }
-    recorded::filled(lent, 0)
+    let left = if expected[3] == WORKSPACE_REFUSED {
+        BEFORE
+    } else {
+        0
+    };
+    recorded::filled(&workspace[..recorded::count(record, at)], left)
 }

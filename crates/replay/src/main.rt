@@ -3,10 +3,8 @@
 // the Rust files of oracle/octaindex3d with the patches of oracle/patches; tests/run makes them anew and compares.
 #![tactic(auto)]
 
-ghost use Rattle.std.specs.Io.{ReadsAtMost};
-
+use each::Kind;
 use std::env::Env;
-use std::io::Read;
 use std::{fs, io, str};
 
 mod cells;
@@ -18,38 +16,18 @@ mod paths;
 mod recorded;
 mod searches;
 
-// The answers, those that differ, and the first of them.
-fn report_answers(rt: &HostRuntime, list: &[u8], argument: usize, what: &str) -> io::Result<()> {
-    let tally = each::replay(list, argument);
-    print!(rt; "{}{what}{} differ", tally.answers, tally.differ)?;
-    if tally.differ > 0 {
-        print!(rt; ", the first at record {}", tally.first)?;
+// One line: the answers, those that differ, the first of them, and whether the list is cut off. Of a list of searches that shows in the search whose body is not
+// whole.
+fn report(rt: &HostRuntime, list: &[u8], kind: Kind, what: &str) -> io::Result<()> {
+    let tally = each::replay(list, kind);
+    print!(rt; "{} answers{what}, {} differ", tally.answers, tally.differ)?;
+    if let Some(first) = tally.first {
+        print!(rt; ", the first at record {first}")?;
     }
-    Ok(())
-}
-
-// One line, which also says whether the list is cut off. Of a list of searches that shows in the search whose body is not whole.
-fn report(rt: &HostRuntime, list: &[u8], argument: usize, what: &str) -> io::Result<()> {
-    report_answers(rt, list, argument, what)?;
-    if argument != each::SEARCHES && list.len() % 64 != 0 {
+    if list.len() % 64 != 0 && !matches!(kind, Kind::Searches) {
         print!(rt; ", and the list ends inside a record")?;
     }
     println!(rt; "")
-}
-
-// Reads until the buffer is full or the input ends, and answers with how many bytes stand at its front.
-fn read_whole(from: &mut impl Read, buffer: &mut [u8]) -> io::Result<usize>
-    ensures { ReadsAtMost result buffer.new }
-{
-    let mut done = 0;
-    while done < buffer.len() {
-        let more = from.read(&mut buffer[done..])?;
-        if more == 0 {
-            return Ok(done);
-        }
-        done += more;
-    }
-    Ok(done)
 }
 
 // Puts an argument at the front of the buffer. One that is longer, or not there, names no file.
@@ -61,22 +39,22 @@ fn argument_text<'a>(rt: &HostRuntime, argument: usize, buffer: &'a mut [u8]) ->
 }
 
 // A list that cannot be opened is named on standard error, with the system's words for why; one that cannot be read ends the program with that error.
-fn replay(rt: &HostRuntime, argument: usize, what: &str) -> io::Result<()> {
+fn replay(rt: &HostRuntime, argument: usize, kind: Kind, what: &str) -> io::Result<()> {
     let mut name = [0u8; 4096];
     let path = argument_text(rt, argument, &mut name);
     let mut list = [0u8; 65536];
     match fs::open(rt, path) {
         Ok(mut file) => {
-            let size = read_whole(&mut file, &mut list)?;
-            report(rt, &list[..size], argument, what)
+            let size = input::read_whole(&mut file, &mut list)?;
+            report(rt, &list[..size], kind, what)
         }
         Err(why) => input::say_failure(rt, path, &why),
     }
 }
 
 fn main(rt: HostRuntime) -> io::Result<()> {
-    replay(&rt, each::CELLS, " answers, ")?;
-    replay(&rt, each::LAYERS, " answers on layers, ")?;
-    replay(&rt, each::PATHS, " answers on rings and lines, ")?;
-    replay(&rt, each::SEARCHES, " answers on searches, ")
+    replay(&rt, 1, Kind::Cells, "")?;
+    replay(&rt, 2, Kind::Layers, " on layers")?;
+    replay(&rt, 3, Kind::Paths, " on rings and lines")?;
+    replay(&rt, 4, Kind::Searches, " on searches")
 }

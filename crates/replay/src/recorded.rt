@@ -1,9 +1,7 @@
 // What a record of the Rust oracle's answers holds, and whether what a call told and wrote is what its record expects.
 // vectors/src has the format of each list's records.
-ghost use Rattle.std.specs.Prelude.{◌+◌, ◌*◌, ◌≤◌, ◌<◌, length};
-ghost use Rattle.replay.specs.Inner.Counted.{Counted};
+ghost use Rattle.std.specs.Prelude.{◌+◌, ◌≤◌, ◌<◌, length};
 
-use cell::twos;
 use face::{FieldsTold, RefusalTold};
 use refusal::Coord;
 
@@ -18,21 +16,7 @@ pub const UNTOUCHED: u8 = 0xA5;
 
 pub const UNTOUCHED_NUMBER: i32 = -1515870811;
 
-// How many records a list has, how many calls said something else than their record, and the first of these, counted from 0.
-#[derive(Clone, Copy)]
-pub struct Tally {
-    pub answers: usize,
-    pub differ: usize,
-    pub first: usize,
-}
-
 // ---- what stands in a record
-
-pub fn byte(record: &Record, at: usize) -> u8
-    requires { at < 320 }
-{
-    record[at]
-}
 
 // A number of two bytes, and of four.
 pub fn count(record: &Record, at: usize) -> usize
@@ -44,7 +28,6 @@ pub fn count(record: &Record, at: usize) -> usize
 
 pub fn word(record: &Record, at: usize) -> u32
     requires { at + 4 ≤ 320 }
-    ensures { result < 4294967296 }
 {
     words::read32_big(record, at)
 }
@@ -60,24 +43,17 @@ pub fn place(record: &Record, at: usize) -> Coord
     requires { at + 12 ≤ 320 }
 {
     Coord {
-        x: twos::of_bits(word(record, at)),
-        y: twos::of_bits(word(record, at + 4)),
-        z: twos::of_bits(word(record, at + 8)),
+        x: word(record, at).cast_signed(),
+        y: word(record, at + 4).cast_signed(),
+        z: word(record, at + 8).cast_signed(),
     }
-}
-
-pub fn part(record: &Record, at: usize, length: usize) -> &[u8]
-    requires { at + length ≤ 320 }
-{
-    let whole = &record[..];
-    &whole[at..at + length]
 }
 
 // The bytes that are handed over as a cell: so many as the byte at `length` says.
 pub fn cell(record: &Record, at: usize, length: usize) -> &[u8]
     requires { (at ≤ 64) × (length < 320) }
 {
-    part(record, at, byte(record, length) as usize)
+    &record[at..at + record[length] as usize]
 }
 
 // ---- whether what is told is what the record expects
@@ -86,19 +62,16 @@ pub fn same_place(record: &Record, at: usize, x: i32, y: i32, z: i32) -> bool
     requires { at + 12 ≤ 320 }
 {
     let expected = place(record, at);
-    (x == expected.x) & (y == expected.y) & (z == expected.z)
-}
-
-pub fn same_pair(record: &Record, at: usize, a: u64, b: u64) -> bool
-    requires { at + 16 ≤ 320 }
-{
-    (a == bits(record, at)) & (b == bits(record, at + 8))
+    x == expected.x && y == expected.y && z == expected.z
 }
 
 pub fn same_words(record: &Record, at: usize, a: u64, b: u64, c: u64, d: u64) -> bool
     requires { at + 32 ≤ 320 }
 {
-    same_pair(record, at, a, b) & same_pair(record, at + 16, c, d)
+    a == bits(record, at)
+        && b == bits(record, at + 8)
+        && c == bits(record, at + 16)
+        && d == bits(record, at + 24)
 }
 
 // The refusal whose number, room and coordinates the record has at these places.
@@ -111,9 +84,9 @@ pub fn same_refusal(
 ) -> bool
     requires { (number < 320) × (room < 320) × (at + 12 ≤ 320) }
 {
-    (told.number == byte(record, number) as u32)
-        & (told.room == byte(record, room) as u32)
-        & same_place(record, at, told.x, told.y, told.z)
+    told.number == u32::from(record[number])
+        && told.room == u32::from(record[room])
+        && same_place(record, at, told.x, told.y, told.z)
 }
 
 // ---- points and cells
@@ -125,10 +98,7 @@ const BOTH: usize = 104;
 pub fn answer_at(record: &Record) -> usize
     ensures { result ≤ 64 }
 {
-    if byte(record, 5) == 0 {
-        return 40;
-    }
-    ZEROS
+    if record[5] == 0 { 40 } else { ZEROS }
 }
 
 // The record's refusal, where an answer would be at `at`.
@@ -141,22 +111,19 @@ pub fn same_told(record: &Record, told: RefusalTold, at: usize) -> bool
 // An answer of one to three numbers.
 pub fn same_numbers(record: &Record, told: RefusalTold, x: i32, y: i32, z: i32) -> bool {
     let at = answer_at(record);
-    same_told(record, told, at) & same_place(record, at, x, y, z)
+    same_told(record, told, at) && same_place(record, at, x, y, z)
 }
 
 // An answer of the bits of one to three doubles.
 pub fn same_bits(record: &Record, told: RefusalTold, x: u64, y: u64, z: u64) -> bool {
     let at = answer_at(record);
-    same_told(record, told, at) & same_words(record, at, x, y, z, 0)
+    same_told(record, told, at) && same_words(record, at, x, y, z, 0)
 }
 
-// The five bytes are compared as one number: in the record a coordinate's first three bytes stand behind them.
+// A cell's five bytes and its place.
 pub fn same_fields(record: &Record, told: FieldsTold) -> bool {
     let at = answer_at(record);
     let head = [
-        0,
-        0,
-        0,
         told.frame,
         told.resolution,
         told.exponent,
@@ -164,43 +131,21 @@ pub fn same_fields(record: &Record, told: FieldsTold) -> bool {
         told.reserved,
     ];
     same_told(record, told.refusal, at)
-        & (words::read64_big(&head, 0) == bits(record, at) / 16777216)
-        & same_place(record, at + 5, told.x, told.y, told.z)
+        && record[at..at + 5] == head[..]
+        && same_place(record, at + 5, told.x, told.y, told.z)
 }
 
 // ---- what is lent
 
-fn byte_or(bytes: &[u8], at: usize, other: u8) -> u8 {
-    if at < bytes.len() {
-        return bytes[at];
-    }
-    other
+pub fn filled(bytes: &[u8], byte: u8) -> bool {
+    bytes.iter().all(|b| *b == byte)
 }
 
 // Whether the bytes begin with `front`, and each behind it is `rest`.
 pub fn holds(bytes: &[u8], front: &[u8], rest: u8) -> bool {
-    if bytes.len() < front.len() {
-        return false;
-    }
-    let mut i = 0;
-    while i < bytes.len() {
-        if bytes[i] != byte_or(front, i, rest) {
-            return false;
-        }
-        i += 1;
-    }
-    true
-}
-
-pub fn filled(bytes: &[u8], byte: u8) -> bool {
-    holds(bytes, &bytes[0..0], byte)
-}
-
-fn weighed(place: usize, byte: u8) -> u64
-    requires { place < 65536 }
-    ensures { result < 16777216 }
-{
-    (place as u64 + 1) * (byte as u64)
+    bytes
+        .strip_prefix(front)
+        .is_some_and(|behind| filled(behind, rest))
 }
 
 // A number that tells buffers apart: each byte times its place, counted from 1.
@@ -208,10 +153,8 @@ pub fn check_number(buffer: &[u8]) -> u64
     requires { length buffer.now ≤ 65536 }
 {
     let mut sum = 0;
-    let mut i = 0;
-    while i < buffer.len() {
-        sum += weighed(i, buffer[i]);
-        i += 1;
+    for (i, byte) in buffer.iter().enumerate() {
+        sum += (i as u64 + 1) * u64::from(*byte);
     }
     sum
 }
@@ -223,38 +166,6 @@ pub fn record_at(list: &[u8], at: usize) -> Record
     requires { at + 64 ≤ length list.now }
 {
     let mut record = [0; 320];
-    let mut i = 0;
-    while i < 64 {
-        record[i] = list[at + i];
-        i += 1;
-    }
+    record[..64].copy_from_slice(&list[at..at + 64]);
     record
-}
-
-// The tally with one record more.
-pub fn tallied(tally: Tally, agrees: bool) -> Tally
-    requires answers_bound { tally.answers + 1 < 18446744073709551616 }
-    requires counted { Counted tally.answers tally }
-    ensures { Counted (tally.answers + 1) result }
-{
-    let answers = tally.answers + 1;
-    if agrees {
-        return Tally {
-            answers,
-            differ: tally.differ,
-            first: tally.first,
-        };
-    }
-    if tally.differ == 0 {
-        return Tally {
-            answers,
-            differ: 1,
-            first: tally.answers,
-        };
-    }
-    Tally {
-        answers,
-        differ: tally.differ + 1,
-        first: tally.first,
-    }
 }

@@ -1,9 +1,0 @@
--- Each turn copies one byte of 64.
-use Prim.Native.Nat.{◌≤◌, ◌-◌}
-use Rattle.replay.proofs.recorded.record_at.Given as goal
-
-abbrev pub invariant-loop-i : goal.invariant-loop-i
-invariant-loop-i l = l.i ≤ 64
-
-abbrev pub decreases-loop-i : goal.decreases-loop-i
-decreases-loop-i l = 64 - l.i
