@@ -111,24 +111,14 @@ pub fn square_root(x: f64) -> Root
     if x >= 1.0 {
         if x < 18446744073709551616.0 {
             let n = std::num::truncating_f64_to_u64(x);
-            if n < 9007199254740992 {
-                if n as f64 == x {
-                    return Root::Of(whole_root(n));
-                }
-            } else {
+            if n >= 9007199254740992 || n as f64 == x {
                 return Root::Of(whole_root(n));
             }
-        } else {
-            if x == 18446744073709551616.0 {
-                return Root::Of(4294967296.0);
-            }
+        } else if x == 18446744073709551616.0 {
+            return Root::Of(4294967296.0);
         }
-    } else {
-        if x == 0.0 {
-            if f64::to_bits(x) == 0 {
-                return Root::Of(0.0);
-            }
-        }
+    } else if x == 0.0 && f64::to_bits(x) == 0 {
+        return Root::Of(0.0);
     }
     Root::Refused(Refusal::OutOfRange)
 }
