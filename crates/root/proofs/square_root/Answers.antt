@@ -1,7 +1,7 @@
 -- `root::square_root` meets its contract: each way out by what its tests say of x. A constant is its bit pattern in MIR, which `of_bits` computes.
+use Rattle.std.specs.Prelude.{Ok}
 use Rattle.std.proofs.Common.{◌≡◌, ℕ, ◌<◌, ◌≤◌, true, false, pos, sym, ap, ◌∙◌, subst}
 use lib.Ieee.{Float, binary64, of_bits, eq, of_int}
-use Rattle.root.specs.declared.Root.TheVariants.{Of}
 use Rattle.root.specs.Root.{root_of, root_whole}
 use Rattle.float.proofs.Laws.{so}
 use Rattle.root.proofs.Whole.{above_minus_one, cast-pos, root_below, none_below, root-above, is-big, too-big, is-nought, minus-nought, too_small}
@@ -21,7 +21,7 @@ pub returns-then-n-ge9007199254740992 : goal.returns-then-n-ge9007199254740992
 unfolding of_bits
 returns-then-n-ge9007199254740992 c =
     let i = c.truncating_f64_to_u64-n.ensures in
-    ap (λ (y : Float). Of y) (c.whole_root.ensures ∙ ap root_whole i)
+    ap (λ (y : Float). Ok y) (c.whole_root.ensures ∙ ap root_whole i)
     ∙ elim c.then-n-ge9007199254740992.branch [
       | then-n-ge9007199254740992-via-then-n-ge9007199254740992 w ↦ sym (root-above c.args.x (so c.well_formed.0.1) c.if-x.true c.if-x-2.true (subst (λ (k : ℕ). 9007199254740992 ≤ k) i w.if-n-ge9007199254740992.true))
       | then-n-ge9007199254740992-via-else-n-ge9007199254740992+then-n-x w ↦
