@@ -1,12 +1,13 @@
 -- After any history get answers what the last step that touched the cell left of it: "after any sequence of sets, removes, clears, loads and rollups into it, refused ones among them, from a sound
 -- layer, get answers what the last unrefused set or remove of that cell, clear, load or rollup left." The one induction over the steps is `history-keeps`.
+use Rattle.std.specs.Prelude.{Option}
 use mathlib.Core.Path.{◌≡◌, refl, ap, ◌∙◌}
 use mathlib.Core.List.{List, [], ◌∷◌}
 use Prim.Native.Nat.{ℕ}
 use Rattle.refusal.specs.declared.Cell.{Cell}
 use Rattle.cell.specs.declared.CellAnswer.TheVariants as cell
 use Rattle.cell.specs.Bytes.{from_bytes_of}
-use Rattle.table.specs.Records.{Held, rows_of, held_of, Layer}
+use Rattle.table.specs.Records.{rows_of, held_of, Layer}
 use Rattle.layer.specs.Calls.{of_held, held_in}
 use Rattle.layer.proofs.Holding.{get-of-rows}
 use Rattle.history.specs.History.{Kind, width_of, Step, OfBytes, AllOfBytes, no_steps, one-step, IsLayer, after, after_all, left, left_then, along, last_left}
@@ -24,7 +25,7 @@ module _ {kind : Kind} (l : Layer) (steps : List (Step kind)) (start : IsLayer k
   shows-after : (c : Cell) → Shows kind c (after_all steps l) (last_left c steps l)
   unfolding last_left
   shows-after c =
-      history-keeps (λ (s : Step kind) (l : Layer) (h : Held). left_then (left c s l) h) (Shows kind c) (step-shows c) steps given l (held_of c (rows_of (width_of kind) l.table l.count))
+      history-keeps (λ (s : Step kind) (l : Layer) (h : Option ℕ). left_then (left c s l) h) (Shows kind c) (step-shows c) steps given l (held_of c (rows_of (width_of kind) l.table l.count))
       (record { bytes = start.bytes; sound = start.sound; holds = refl })
 
   -- a sound layer of bytes is one after any history

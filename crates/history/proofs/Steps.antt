@@ -1,4 +1,5 @@
 -- One step of a history: a layer is a layer after it, and holds of each cell what the step left of it, or what it held before.
+use Rattle.std.specs.Prelude.{Option, Some, None}
 use mathlib.Core.Path.{◌≡◌, refl, sym, ap, subst, subst⁻¹, ◌∙◌}
 use mathlib.Core.Bool.{Bool, true, false, cond, ◌&&◌, and-eq-true_iff}
 use mathlib.Core.List.{List, []}
@@ -16,7 +17,7 @@ use Rattle.cell.specs.declared.CellAnswer.{CellAnswer}
 use Rattle.cell.specs.declared.CellAnswer.TheVariants as cell
 use Rattle.cell.specs.Cell.{same_cell}
 use Rattle.cell.specs.Bytes.{from_bytes_of}
-use Rattle.table.specs.Records.{Row, Held, nothing, held, room_for, rows_of, ascending, is_sound, held_of, without_cell, keeping, refilled, Layer, layer}
+use Rattle.table.specs.Records.{Row, room_for, rows_of, ascending, is_sound, held_of, without_cell, keeping, refilled, Layer, layer}
 use Rattle.table.proofs.Laws.{sound-ascending}
 use Rattle.table.proofs.Map.{held_with, held-without}
 use Rattle.table.specs.Terms.{no_rows, Holds}
@@ -49,7 +50,7 @@ use Rattle.history.specs.History.{Kind, flag_layer, value_layer, width_of, Step,
 use Rattle.history.proofs.RollupRows.{rolled-ascending, rolled-storable}
 
 -- a table of bytes that is a sound layer, and holds this of a cell
-pub record Shows (kind : Kind) (c : Cell) (l : Layer) (h : Held) : Type 0 where
+pub record Shows (kind : Kind) (c : Cell) (l : Layer) (h : Option ℕ) : Type 0 where
   pub bytes : Bytes l.table
   pub sound : is_sound (width_of kind) l.table l.count ≡ true
   pub holds : held_of c (rows_of (width_of kind) l.table l.count) ≡ h
@@ -58,17 +59,17 @@ wide : (kind : Kind) → 16 ≤ width_of kind
 wide flag_layer = omega arith
 wide value_layer = omega arith
 
-shown : (kind : Kind) (c : Cell) (t : List ℕ) (n : ℕ) (rs : List Row) (h : Held) → Holds (width_of kind) t n rs → held_of c rs ≡ h → Shows kind c (layer t n) h
+shown : (kind : Kind) (c : Cell) (t : List ℕ) (n : ℕ) (rs : List Row) (h : Option ℕ) → Holds (width_of kind) t n rs → held_of c rs ≡ h → Shows kind c (layer t n) h
 shown kind c t n rs h has e = record { bytes = has.bytes; sound = has.sound; holds = ap (held_of c) has.rows ∙ e }
 
 -- a call about one cell leaves it, and the others as they were
-left-of-cell : (same : Bool) (k h : Held) → cond same k h ≡ left_then (cond same (leaves k) untouched) h
+left-of-cell : (same : Bool) (k h : Option ℕ) → cond same k h ≡ left_then (cond same (leaves k) untouched) h
 left-of-cell true k h = refl
 left-of-cell false k h = refl
 
-if-held : (k : Held) (x : Left) → if_held (of_held k) x ≡ x
-if-held nothing x = refl
-if-held (held k) x = refl
+if-held : (k : Option ℕ) (x : Left) → if_held (of_held k) x ≡ x
+if-held None x = refl
+if-held (Some k) x = refl
 
 -- ---- what a load does to either layer
 
@@ -120,29 +121,29 @@ rows-of-file value_layer file (accepted.Refused why) read b = record { few = ome
 
 -- ---- the steps
 
-module _ (kind : Kind) (c : Cell) (t : List ℕ) (n : ℕ) (h : Held) (was : Shows kind c (layer t n) h) where
+module _ (kind : Kind) (c : Cell) (t : List ℕ) (n : ℕ) (h : Option ℕ) (was : Shows kind c (layer t n) h) where
   abbrev w : ℕ
   w = width_of kind
 
-  set-shows : (id : List ℕ) (k : ℕ) → Bytes id → k < 256 ^ (w - 16) → Shows kind c (after_count n (set_in w t n id k)) (left_then (if_counted (set_in w t n id k).said (of_cell c (from_bytes_of id) (held k))) h)
+  set-shows : (id : List ℕ) (k : ℕ) → Bytes id → k < 256 ^ (w - 16) → Shows kind c (after_count n (set_in w t n id k)) (left_then (if_counted (set_in w t n id k).said (of_cell c (from_bytes_of id) (Some k))) h)
   unfolding set_in
   set-shows id k b small = by-cell (from_bytes_of id) refl
     where
-      by-cell : (a : CellAnswer) → from_bytes_of id ≡ a → Shows kind c (after_count n (set_in w t n id k)) (left_then (if_counted (set_in w t n id k).said (of_cell c a (held k))) h)
+      by-cell : (a : CellAnswer) → from_bytes_of id ≡ a → Shows kind c (after_count n (set_in w t n id k)) (left_then (if_counted (set_in w t n id k).said (of_cell c a (Some k))) h)
       by-cell (cell.Refused why) read =
           subst⁻¹ (λ (z : Changed CountAnswer). Shows kind c (after_count n z) (left_then (if_counted z.said untouched) h)) (ap (λ (a : CellAnswer). set_by a w t n k) read) was
       by-cell (cell.Is d) read =
-          set-either w t n id d read was.sound (wide kind) was.bytes (λ (z : Changed CountAnswer). Shows kind c (after_count n z) (left_then (if_counted z.said (of_cell c (cell.Is d) (held k))) h)) k (read-words id d b read) small
+          set-either w t n id d read was.sound (wide kind) was.bytes (λ (z : Changed CountAnswer). Shows kind c (after_count n z) (left_then (if_counted z.said (of_cell c (cell.Is d) (Some k))) h)) k (read-words id d b read) small
           (λ m i has.
           shown kind c m i _ _ has
-          (held_with c (keeping d k) (rows_of w t n) ∙ ap (cond (same_cell d c) (held k)) was.holds ∙ left-of-cell (same_cell d c) (held k) h))
+          (held_with c (keeping d k) (rows_of w t n) ∙ ap (cond (same_cell d c) (Some k)) was.holds ∙ left-of-cell (same_cell d c) (Some k) h))
           was
 
-  remove-shows : (id : List ℕ) → Shows kind c (after_remove n (remove_in w t n id)) (left_then (if_held (remove_in w t n id).said (of_cell c (from_bytes_of id) nothing)) h)
+  remove-shows : (id : List ℕ) → Shows kind c (after_remove n (remove_in w t n id)) (left_then (if_held (remove_in w t n id).said (of_cell c (from_bytes_of id) None)) h)
   unfolding remove_in
   remove-shows id = by-cell (from_bytes_of id) refl
     where
-      by-cell : (a : CellAnswer) → from_bytes_of id ≡ a → Shows kind c (after_remove n (remove_in w t n id)) (left_then (if_held (remove_in w t n id).said (of_cell c a nothing)) h)
+      by-cell : (a : CellAnswer) → from_bytes_of id ≡ a → Shows kind c (after_remove n (remove_in w t n id)) (left_then (if_held (remove_in w t n id).said (of_cell c a None)) h)
       by-cell (cell.Refused why) read =
           subst⁻¹ (λ (z : Changed HeldAnswer). Shows kind c (after_remove n z) (left_then (if_held z.said untouched) h)) (ap (λ (a : CellAnswer). remove_by a w t n) read) was
       by-cell (cell.Is d) read =
@@ -150,13 +151,13 @@ module _ (kind : Kind) (c : Cell) (t : List ℕ) (n : ℕ) (h : Held) (was : Sho
           let said : (remove_in w t n id).said ≡ of_held (held_of d rs) = ap (λ (z : Changed HeldAnswer). z.said) (remove-is w t n id d read was.sound) in
           shown kind c (remove_in w t n id).bytes _ (without_cell d rs) _ (remove-holds w t n id d read was.sound (wide kind) was.bytes)
           (held-without c d rs (sound-ascending w t n was.sound)
-          ∙ ap (cond (same_cell d c) nothing) was.holds
-          ∙ left-of-cell (same_cell d c) nothing h
-          ∙ ap (λ (x : Left). left_then x h) (sym (ap (λ (a : HeldAnswer). if_held a (of_cell c (cell.Is d) nothing)) said ∙ if-held (held_of d rs) (of_cell c (cell.Is d) nothing))))
+          ∙ ap (cond (same_cell d c) None) was.holds
+          ∙ left-of-cell (same_cell d c) None h
+          ∙ ap (λ (x : Left). left_then x h) (sym (ap (λ (a : HeldAnswer). if_held a (of_cell c (cell.Is d) None)) said ∙ if-held (held_of d rs) (of_cell c (cell.Is d) None))))
 
-  clear-shows : Shows kind c (layer (clear_in w t) 0) nothing
+  clear-shows : Shows kind c (layer (clear_in w t) 0) None
   unfolding clear_in held_of ascending
-  clear-shows = shown kind c (clear_in w t) 0 [] nothing (refilled-holds w t (wide kind) was.bytes [] (room_for w t) no_rows refl (omega arith) (omega arith)) refl
+  clear-shows = shown kind c (clear_in w t) 0 [] None (refilled-holds w t (wide kind) was.bytes [] (room_for w t) no_rows refl (omega arith) (omega arith)) refl
 
   load-shows : (file other : List ℕ) → Bytes file → Shows kind c (after_load kind n (load_into kind file t other)) (left_then (if_loaded (load_into kind file t other).said (leaves (held_of c (rows_for kind file (accepted_of file))))) h)
   load-shows file other b =
@@ -168,7 +169,7 @@ module _ (kind : Kind) (c : Cell) (t : List ℕ) (n : ℕ) (h : Held) (was : Sho
       subst⁻¹ (λ (i : ℕ). Shows kind c (layer (refilled w (room_for w t) rs t) i) (held_of c rs)) size
       (shown kind c (refilled w (room_for w t) rs t) (length rs) rs (held_of c rs) (refilled-holds w t (wide kind) was.bytes rs (room_for w t) rows.storable rows.ascend fits (omega arith)) refl))
 
-rollup-shows : (c : Cell) (t : List ℕ) (n : ℕ) (h : Held) → Shows value_layer c (layer t n) h → (how : Aggregation) (fine : List ℕ) (m : ℕ) → Bytes fine
+rollup-shows : (c : Cell) (t : List ℕ) (n : ℕ) (h : Option ℕ) → Shows value_layer c (layer t n) h → (how : Aggregation) (fine : List ℕ) (m : ℕ) → Bytes fine
     → Shows value_layer c (after_count n (rollup_in how fine m t)) (left_then (if_counted (rollup_in how fine m t).said (leaves (held_of c (rows_of_rollup (rolled_of how (groups_of (parent_rows (rows_of 24 fine m)))))))) h)
 unfolding rollup_in rows_of
 rollup-shows c t n h was how fine m b = by-sound (is_sound 24 fine m) (rolled_of how (groups_of (parent_rows (rows_of 24 fine m)))) refl
@@ -188,7 +189,7 @@ rollup-shows c t n h was how fine m b = by-sound (is_sound 24 fine m) (rolled_of
     by-sound true (rolled rs) e = by-room rs (leb (length rs) (room_for 24 t)) refl e
 
 -- any of them
-pub step-shows : {kind : Kind} (c : Cell) (s : Step kind) (l : Layer) (h : Held) → OfBytes s → Shows kind c l h → Shows kind c (after s l) (left_then (left c s l) h)
+pub step-shows : {kind : Kind} (c : Cell) (s : Step kind) (l : Layer) (h : Option ℕ) → OfBytes s → Shows kind c l h → Shows kind c (after s l) (left_then (left c s l) h)
 unfolding after left
 step-shows {kind} c (set id k) l h given was = set-shows kind c l.table l.count h was id k given.0 given.1
 step-shows {kind} c (remove id) l h given was = remove-shows kind c l.table l.count h was id

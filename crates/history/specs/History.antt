@@ -1,13 +1,13 @@
 -- The history of a layer: any sequence of sets, removes, clears, loads and rollups into it, refused ones among them; what each leaves in the table and the count, by the calls' own
 -- definitions, and what each leaves of one cell. A refused call leaves all as it was. Over flag and value layers. Definitions only.
-use Rattle.std.specs.Prelude.{◌≡◌, true, cond, List, [], ◌∷◌, ℕ, ◌-◌, ◌^◌, ◌<◌}
+use Rattle.std.specs.Prelude.{◌≡◌, true, cond, List, [], ◌∷◌, ℕ, ◌-◌, ◌^◌, ◌<◌, Option, Some, None}
 use Rattle.refusal.specs.declared.Cell.{Cell}
 use Rattle.words.specs.Word.{Bytes}
 use Rattle.cell.specs.declared.CellAnswer.{CellAnswer}
 use Rattle.cell.specs.declared.CellAnswer.TheVariants as cell
 use Rattle.cell.specs.Cell.{same_cell}
 use Rattle.cell.specs.Bytes.{from_bytes_of, cell_width}
-use Rattle.table.specs.Records.{Row, Held, nothing, held, rows_of, held_of, is_sound, flag_width, value_width, Layer, layer}
+use Rattle.table.specs.Records.{Row, rows_of, held_of, is_sound, flag_width, value_width, Layer, layer}
 use Rattle.general.specs.Changed.{Changed}
 use Rattle.layer.specs.Changes.{set_in, remove_in, clear_in, count_by, left_by}
 use Rattle.layer.specs.declared.HeldAnswer.{HeldAnswer}
@@ -117,10 +117,10 @@ after_all (s ∷ steps) l = after_all steps (after s l)
 -- it did not touch the cell, or left this of it
 pub data Left : Type 0 where
   untouched : Left
-  leaves : Held → Left
+  leaves : Option ℕ → Left
 
 -- a call about one cell leaves the others untouched
-abbrev pub of_cell : Cell → CellAnswer → Held → Left
+abbrev pub of_cell : Cell → CellAnswer → Option ℕ → Left
 of_cell c (cell.Is d) h = cond (same_cell d c) (leaves h) untouched
 of_cell c (cell.Refused r) h = untouched
 
@@ -154,9 +154,9 @@ rows_of_rollup (rolled rs) = rs
 -- set leaves what was set; remove and clear nothing; load and rollup what the file or the fine layer has of the cell
 unfoldable pub left : {kind : Kind} → Cell → Step kind → Layer → Left
 unfolding from_bytes_of held_of set_in remove_in load_of accepted_of flag_rows value_rows rollup_in rows_of parent_rows groups_of rolled_of
-left {kind} c (set id k) l = if_counted (set_in (width_of kind) l.table l.count id k).said (of_cell c (from_bytes_of id) (held k))
-left {kind} c (remove id) l = if_held (remove_in (width_of kind) l.table l.count id).said (of_cell c (from_bytes_of id) nothing)
-left c clear l = leaves nothing
+left {kind} c (set id k) l = if_counted (set_in (width_of kind) l.table l.count id k).said (of_cell c (from_bytes_of id) (Some k))
+left {kind} c (remove id) l = if_held (remove_in (width_of kind) l.table l.count id).said (of_cell c (from_bytes_of id) None)
+left c clear l = leaves None
 left {kind} c (load file other) l = if_loaded (load_into kind file l.table other).said (leaves (held_of c (rows_for kind file (accepted_of file))))
 left c (rollup how fine n) l = if_counted (rollup_in how fine n l.table).said (leaves (held_of c (rows_of_rollup (rolled_of how (groups_of (parent_rows (rows_of value_width fine n)))))))
 
@@ -169,11 +169,11 @@ along f [] l a = a
 along f (s ∷ steps) l a = along f steps (after s l) (f s l a)
 
 -- what was left of a cell stays until a step touches the cell
-abbrev pub left_then : Left → Held → Held
+abbrev pub left_then : Left → Option ℕ → Option ℕ
 left_then untouched h = h
 left_then (leaves k) h = k
 
 -- what the last step that touched the cell left of it; where none did, what the layer held at first
-unfoldable pub last_left : {kind : Kind} → Cell → List (Step kind) → Layer → Held
+unfoldable pub last_left : {kind : Kind} → Cell → List (Step kind) → Layer → Option ℕ
 unfolding along left rows_of held_of
-last_left {kind} c steps l = along (λ (s : Step kind) (l : Layer) (h : Held). left_then (left c s l) h) steps l (held_of c (rows_of (width_of kind) l.table l.count))
+last_left {kind} c steps l = along (λ (s : Step kind) (l : Layer) (h : Option ℕ). left_then (left c s l) h) steps l (held_of c (rows_of (width_of kind) l.table l.count))

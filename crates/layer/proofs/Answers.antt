@@ -1,4 +1,5 @@
 -- What a call on a layer answers, by what its cell's bytes, its table and the search turned out to be.
+use Rattle.std.specs.Prelude.{Option, Some, None}
 use mathlib.Core.Path.{◌≡◌, sym, ap, subst, ◌∙◌}
 use mathlib.Core.Bool.{Bool, true, false, cond}
 use mathlib.Core.List.{List}
@@ -10,7 +11,7 @@ use Rattle.cell.specs.declared.CellAnswer.{CellAnswer}
 use Rattle.cell.specs.declared.CellAnswer.TheVariants.{Is}
 use Rattle.cell.specs.declared.CellAnswer.TheVariants as cell
 use Rattle.cell.specs.Bytes.{from_bytes_of}
-use Rattle.table.specs.Records.{Held, nothing, held, row_at, held_of, rows_of, is_sound}
+use Rattle.table.specs.Records.{row_at, held_of, rows_of, is_sound}
 use Rattle.table.specs.Inner.Places.{Stands}
 use Rattle.table.proofs.Laws.{found-held, missing-held}
 use Rattle.table.proofs.Bytes.{Small, rows-storable, held_small}
@@ -30,14 +31,14 @@ module _ (w : ℕ) (l : List ℕ) (n : ℕ) where
   pub not_sound : (c : Cell) → is_sound w l n ≡ false → Refused BadLayer ≡ held_by (Is c) w l n
   not_sound c e = sym (ap (λ (t : Bool). cond t (of_held (held_of c (rows_of w l n))) (Refused BadLayer)) e)
 
-  on-sound : (c : Cell) (h : Held) → is_sound w l n ≡ true → held_of c (rows_of w l n) ≡ h → of_held h ≡ held_by (Is c) w l n
+  on-sound : (c : Cell) (h : Option ℕ) → is_sound w l n ≡ true → held_of c (rows_of w l n) ≡ h → of_held h ≡ held_by (Is c) w l n
   on-sound c h e q = ap of_held (sym q) ∙ sym (ap (λ (t : Bool). cond t (of_held (held_of c (rows_of w l n))) (Refused BadLayer)) e)
 
   pub found : (c : Cell) (i : ℕ) {k : ℕ} {p : Position} → is_sound w l n ≡ true → Stands w l n c p → p ≡ At i → k ≡ (row_at w l i).kept → Kept k ≡ held_by (Is c) w l n
-  found c i {k} e s q r = on-sound c (held k) e (found-held w l c n i e s q r)
+  found c i {k} e s q r = on-sound c (Some k) e (found-held w l c n i e s q r)
 
   pub not_found : (c : Cell) (i : ℕ) {p : Position} → is_sound w l n ≡ true → Stands w l n c p → p ≡ Before i → Nothing ≡ held_by (Is c) w l n
-  not_found c i e s q = on-sound c nothing e (missing-held w l c n i s q)
+  not_found c i e s q = on-sound c None e (missing-held w l c n i s q)
 
 -- ---- flags: what a record of 20 bytes keeps is below 2^32
 
@@ -46,11 +47,11 @@ LowAnswer (Kept k) = k < 4294967296
 LowAnswer Nothing = Unit {0}
 LowAnswer (Refused r) = Unit {0}
 
-of-held-low : (h : Held) → Small 20 h → LowAnswer (of_held h)
-of-held-low nothing p = tt
-of-held-low (held k) p = p
+of-held-low : (h : Option ℕ) → Small 20 h → LowAnswer (of_held h)
+of-held-low None p = tt
+of-held-low (Some k) p = p
 
-by-soundness : (t : Bool) (h : Held) → Small 20 h → LowAnswer (cond t (of_held h) (Refused BadLayer))
+by-soundness : (t : Bool) (h : Option ℕ) → Small 20 h → LowAnswer (cond t (of_held h) (Refused BadLayer))
 by-soundness true h p = of-held-low h p
 by-soundness false h p = tt
 

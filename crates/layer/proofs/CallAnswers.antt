@@ -1,5 +1,6 @@
 -- When set and remove are answered and when they are refused: "A new cell in a full layer is NoRoom 4; replacing is not, and removed room serves again." A cell that has not 16 bytes, a
 -- layer that is not sound, a new cell with room and without, a cell that is kept: these are all cases. Over the width of a record.
+use Rattle.std.specs.Prelude.{Some, None}
 use mathlib.Core.Path.{◌≡◌, ap, subst, subst⁻¹, ◌∙◌}
 use mathlib.Core.Bool.{Bool, true, false, cond}
 use mathlib.Core.List.{List}
@@ -14,7 +15,7 @@ use Rattle.words.specs.Word.{Bytes}
 use Rattle.cell.specs.declared.CellAnswer.{CellAnswer}
 use Rattle.cell.specs.declared.CellAnswer.TheVariants as cell
 use Rattle.cell.specs.Bytes.{cell_at, from_bytes_of}
-use Rattle.table.specs.Records.{nothing, held, most_cells, room_for, rows_of, is_sound, held_of, with_row, without_cell, laid, keeping, refilled}
+use Rattle.table.specs.Records.{most_cells, room_for, rows_of, is_sound, held_of, with_row, without_cell, laid, keeping, refilled}
 use Rattle.table.proofs.Laws.{sound-ascending, sound-room, rows-within}
 use Rattle.table.proofs.Map.{length-with-held, length-with-new, length-without-held, without-none}
 use Rattle.table.proofs.Bytes.{length-rows_from}
@@ -68,14 +69,14 @@ module _ (w : ℕ) (l : List ℕ) (n : ℕ) (m : List ℕ) where
           ap (λ (z : Changed CountAnswer). z.said) (set_is w l n m c read sound k ∙ ap (λ (t : Bool). cond t (changed (count.Cells (length rs)) (laid w rs l)) (changed (count.Refused (NoRoom room.Layer)) l)) (le-leb (length rs) (room_for w l) h))
 
       -- a new cell is answered where there is room: one cell more
-      pub set_new : (k : ℕ) → held_of c (rows_of w l n) ≡ nothing → n < room_for w l → (set_in w l n m k).said ≡ count.Cells (n + 1)
+      pub set_new : (k : ℕ) → held_of c (rows_of w l n) ≡ None → n < room_for w l → (set_in w l n m k).said ≡ count.Cells (n + 1)
       unfolding rows_of
       set_new k new room =
           let size : length (with_row (keeping c k) (rows_of w l n)) ≡ n + 1 = omega (arith, length-with-new (keeping c k) (rows_of w l n) new, length-rows_from w l 0 n) in
           fits k (omega (arith, size)) ∙ ap count.Cells size
 
       -- and in a full layer it is NoRoom 4, and no byte changes
-      pub set-no-room : (k : ℕ) → held_of c (rows_of w l n) ≡ nothing → n ≡ room_for w l → set_in w l n m k ≡ changed (count.Refused (NoRoom room.Layer)) l
+      pub set-no-room : (k : ℕ) → held_of c (rows_of w l n) ≡ None → n ≡ room_for w l → set_in w l n m k ≡ changed (count.Refused (NoRoom room.Layer)) l
       unfolding rows_of
       set-no-room k new full =
           let rs = with_row (keeping c k) (rows_of w l n) in
@@ -83,25 +84,25 @@ module _ (w : ℕ) (l : List ℕ) (n : ℕ) (m : List ℕ) where
           set_is w l n m c read sound k ∙ ap (λ (t : Bool). cond t (changed (count.Cells (length rs)) (laid w rs l)) (changed (count.Refused (NoRoom room.Layer)) l)) (lt-leb (length rs) (room_for w l) size)
 
       -- a cell that is kept is replaced, in a full layer too: as many cells as before
-      pub set-again : (k v : ℕ) → held_of c (rows_of w l n) ≡ held v → (set_in w l n m k).said ≡ count.Cells n
+      pub set-again : (k v : ℕ) → held_of c (rows_of w l n) ≡ Some v → (set_in w l n m k).said ≡ count.Cells n
       unfolding rows_of
       set-again k v again =
           let size : length (with_row (keeping c k) (rows_of w l n)) ≡ n = length-with-held (keeping c k) (rows_of w l n) v (sound-ascending w l n sound) again ∙ length-rows_from w l 0 n in
           fits k (omega (arith, size, sound-room w l n sound)) ∙ ap count.Cells size
 
       -- a remove of a cell that is kept says what was kept
-      pub remove-kept : (v : ℕ) → held_of c (rows_of w l n) ≡ held v → (remove_in w l n m).said ≡ kept.Kept v
+      pub remove-kept : (v : ℕ) → held_of c (rows_of w l n) ≡ Some v → (remove_in w l n m).said ≡ kept.Kept v
       remove-kept v e = ap (λ (z : Changed HeldAnswer). z.said) (remove-is w l n m c read sound) ∙ ap of_held e
 
       -- and of another, that nothing was; no byte changes
-      pub remove-missing : 16 ≤ w → Bytes l → held_of c (rows_of w l n) ≡ nothing → remove_in w l n m ≡ changed kept.Nothing l
+      pub remove-missing : 16 ≤ w → Bytes l → held_of c (rows_of w l n) ≡ None → remove_in w l n m ≡ changed kept.Nothing l
       remove-missing least bytes e =
           remove-is w l n m c read sound
           ∙ rw (e, without-none c (rows_of w l n) e, refilled-rows w l n least bytes (rows-within w l n (sound-room w l n sound)))
 
 -- removed room serves again: after a remove of a cell that was kept, in a full layer too, a set of any cell that is not kept then is answered
 pub room-serves-again : (w : ℕ) (l : List ℕ) (n : ℕ) (m : List ℕ) (c : Cell) (v : ℕ) (q : List ℕ) (d : Cell) (k : ℕ) → 16 ≤ w → Bytes l → from_bytes_of m ≡ cell.Is c → from_bytes_of q ≡ cell.Is d
-    → is_sound w l n ≡ true → held_of c (rows_of w l n) ≡ held v → held_of d (rows_of w (remove_in w l n m).bytes (n - 1)) ≡ nothing
+    → is_sound w l n ≡ true → held_of c (rows_of w l n) ≡ Some v → held_of d (rows_of w (remove_in w l n m).bytes (n - 1)) ≡ None
     → (set_in w (remove_in w l n m).bytes (n - 1) q k).said ≡ count.Cells n
 unfolding rows_of
 room-serves-again w l n m c v q d k least bytes read other sound e new =

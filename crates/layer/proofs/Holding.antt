@@ -1,4 +1,5 @@
 -- The calls on a layer are those of a map: a set and a remove lay the rows that the map has after them, get says what these keep, and the layer is sound again. Over the width of a record.
+use Rattle.std.specs.Prelude.{Option, Some, None}
 use mathlib.Core.Bool.{Bool, true, false, cond}
 use mathlib.Core.List.{List}
 use mathlib.Core.Path.{◌≡◌, refl, ap, ap₂, subst, subst⁻¹, ◌∙◌}
@@ -18,7 +19,7 @@ use Rattle.cell.specs.declared.CellAnswer.{CellAnswer}
 use Rattle.cell.specs.declared.CellAnswer.TheVariants as cell
 use Rattle.cell.specs.Bytes.{from_bytes_of}
 use Rattle.cell.specs.Terms.{Words}
-use Rattle.table.specs.Records.{rows_of, is_sound, held_of, without_cell, refilled, Row, Held, nothing, held, room_for, with_row, laid, keeping}
+use Rattle.table.specs.Records.{rows_of, is_sound, held_of, without_cell, refilled, Row, room_for, with_row, laid, keeping}
 use Rattle.table.proofs.Laws.{sound-ascending, sound-room}
 use Rattle.table.proofs.Map.{with-ascending, without-ascending, length-without-held, length-without-none}
 use Rattle.table.specs.Terms.{Holds}
@@ -50,13 +51,13 @@ get-of-rows w l n rs m c h read =
     ap (λ (a : CellAnswer). held_by a w l n) read
     ∙ ap₂ (λ (t : Bool) (r : List Row). cond t (of_held (held_of c r)) (kept.Refused BadLayer)) h.sound h.rows
 
-left-rows : (c : Cell) (rs : List Row) (h : Held) → held_of c rs ≡ h → length (without_cell c rs) ≡ left_by (of_held h) (length rs)
-left-rows c rs nothing e = length-without-none c rs e
-left-rows c rs (held k) e = omega (arith, length-without-held c rs k e)
+left-rows : (c : Cell) (rs : List Row) (h : Option ℕ) → held_of c rs ≡ h → length (without_cell c rs) ≡ left_by (of_held h) (length rs)
+left-rows c rs None e = length-without-none c rs e
+left-rows c rs (Some k) e = omega (arith, length-without-held c rs k e)
 
-fewer-left : (h : Held) (n : ℕ) → left_by (of_held h) n ≤ n
-fewer-left nothing n = omega arith
-fewer-left (held k) n = omega arith
+fewer-left : (h : Option ℕ) (n : ℕ) → left_by (of_held h) n ≤ n
+fewer-left None n = omega arith
+fewer-left (Some k) n = omega arith
 
 module _ (w : ℕ) (l : List ℕ) (n : ℕ) (m : List ℕ) (c : Cell) (read : from_bytes_of m ≡ cell.Is c) (sound : is_sound w l n ≡ true) where
   -- a set lays the rows that the map has after it, where there is room for them

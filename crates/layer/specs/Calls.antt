@@ -1,8 +1,8 @@
 -- The calls on a layer that change nothing, by the scope document's order of refusals: BadList for a cell that has not 16 bytes, then BadLayer. Definitions only.
-use Rattle.std.specs.Prelude.{List, ℕ}
+use Rattle.std.specs.Prelude.{List, ℕ, Option, Some, None}
 use Rattle.refusal.specs.declared.Refusal.TheVariants.{BadLayer}
 use Rattle.cell.specs.Bytes.{from_bytes_of, on_cell}
-use Rattle.table.specs.Records.{Held, nothing, held, held_of, rows_of, is_sound}
+use Rattle.table.specs.Records.{held_of, rows_of, is_sound}
 use Rattle.layer.specs.declared.HeldAnswer.{HeldAnswer}
 use Rattle.layer.specs.declared.HeldAnswer.TheVariants as kept
 use Rattle.layer.specs.declared.FlagsAnswer.{FlagsAnswer}
@@ -16,9 +16,9 @@ use Rattle.refusal.specs.declared.CountAnswer.TheVariants as count
 use Rattle.general.specs.Refuse.{refuse_unless}
 
 -- what is kept, as an answer
-abbrev pub of_held : Held → HeldAnswer
-of_held (held k) = kept.Kept k
-of_held nothing = kept.Nothing
+abbrev pub of_held : Option ℕ → HeldAnswer
+of_held (Some k) = kept.Kept k
+of_held None = kept.Nothing
 
 -- what is kept of the cell of these bytes in the first n records of w bytes of the table l
 unfoldable pub held_in : ℕ → List ℕ → ℕ → List ℕ → HeldAnswer

@@ -1,6 +1,6 @@
 -- The checker's judgement on a list of cells says what Accepted.antt says: it adds the distance for each step, it takes a cell for shut exactly where the rule avoids blocked cells and the
 -- cell is blocked, and it walks a list that leads to the goal to its end. Then what is true of every cell that such a list enters.
-use Rattle.std.specs.Prelude.{Ok}
+use Rattle.std.specs.Prelude.{Ok, Option, Some, None}
 use mathlib.Core.Path.{◌≡◌, refl, sym, ap, ap₂, subst, ◌∙◌}
 use mathlib.Core.Bool.{Bool, true, false, cond, ◌&&◌, beq, false≢true}
 use mathlib.Core.List.Memᴰ
@@ -26,7 +26,7 @@ use Rattle.distance.proofs.StepsLaws.{step-costs}
 use Rattle.cell.specs.Cell.{frame_of, resolution_of, x_of, coord_of, same_cell}
 use Rattle.cell.specs.Terms.{Words}
 use Rattle.cell.proofs.Laws.{same-cell}
-use Rattle.table.specs.Records.{Row, Held, nothing, held, held_of}
+use Rattle.table.specs.Records.{Row, held_of}
 use Rattle.route.specs.Route.{is_step, cost_between, blocked_by, is_shut, Walk, stopped, arrived, walk_from, judge_walk, judge_cells}
 use Rattle.route.specs.Accepted.{Step, Blocked, Leads, here, onward, Accepted}
 use Rattle.route.proofs.StepLaws.{step_is, is-step}
@@ -54,9 +54,9 @@ cost-is-distance a b step =
 -- ---- which cells are shut
 
 module _ (rule : ℕ) (rows : List Row) (c : Cell) where
-  blocked-by : (h : Held) → held_of c rows ≡ h → blocked_by h ≡ true → Blocked rows c
-  blocked-by nothing f e = absurd (false≢true e)
-  blocked-by (held flags) f e = record { flags = flags; kept = f; bit-zero = eqb-true (flags % 2) 1 e }
+  blocked-by : (h : Option ℕ) → held_of c rows ≡ h → blocked_by h ≡ true → Blocked rows c
+  blocked-by None f e = absurd (false≢true e)
+  blocked-by (Some flags) f e = record { flags = flags; kept = f; bit-zero = eqb-true (flags % 2) 1 e }
 
   -- a cell that is taken for shut is blocked, and the rule avoids such cells
   pub shut-is : is_shut rule rows c ≡ true → (rule ≡ 1) × Blocked rows c

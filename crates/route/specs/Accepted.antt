@@ -1,5 +1,5 @@
 -- What an accepted route is, in words of the domain and apart from the checker's own definition: demand 3, of cells and of the bytes that a call is handed. Definitions only.
-use Rattle.std.specs.Prelude.{◌≡◌, true, false, ℕ, ◌%◌, ◌<◌, pos, Float, length, Ok}
+use Rattle.std.specs.Prelude.{◌≡◌, true, false, ℕ, ◌%◌, ◌<◌, pos, Float, length, Ok, Some}
 use mathlib.Core.List.{List, [], ◌∷◌, Memᴰ}
 use Rattle.std.specs.Float.{fin, binary64}
 use Rattle.std.specs.Float.Ieee.{add, to_bits}
@@ -9,7 +9,7 @@ use Rattle.distance.specs.Distance.{distance_of}
 use Rattle.cell.specs.Cell.{frame_of, resolution_of, coord_of, is_plain}
 use Rattle.cell.specs.Bytes.{cell_at, cell_width}
 use Rattle.cell.specs.Lists.{cells_of}
-use Rattle.table.specs.Records.{Row, held, held_of, rows_of, is_sound, flag_width, Layer}
+use Rattle.table.specs.Records.{Row, held_of, rows_of, is_sound, flag_width, Layer}
 use Rattle.route.specs.Route.{Claim}
 
 -- a step goes from a cell of one parity to a plain cell of the same frame and resolution that stands at one of the 14 places around it
@@ -23,7 +23,7 @@ pub record Step (a b : Cell) : Type 0 where
 -- a cell is blocked in a layer where the flags that are kept of it have bit 0
 pub record Blocked (rows : List Row) (c : Cell) : Type 0 where
   pub flags : ℕ
-  pub kept : held_of c rows ≡ held flags
+  pub kept : held_of c rows ≡ Some flags
   pub bit-zero : flags % 2 ≡ 1
 
 -- a route of one cell, or a route that begins with a step; each step adds its distance to what was paid so far, rounded once

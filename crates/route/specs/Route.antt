@@ -1,6 +1,6 @@
 -- "Verdict 0, or the first failing: 13, 14, 15; 20 empty; 21 wrong start; then per index 22 not a neighbour, 23 blocked; 24 wrong goal; 25 wrong cost bits. A mixed-parity cell has no
 -- neighbours. An edge cell's neighbours are here those of the 14 whose coordinates fit i32, without wrapping." The scope document's section "The route checker". Definitions only.
-use Rattle.std.specs.Prelude.{Bool, false, cond, ◌&&◌, ◌||◌, List, [], ◌∷◌, ℕ, eqb, ltb, pos, Float, length}
+use Rattle.std.specs.Prelude.{Bool, false, cond, ◌&&◌, ◌||◌, List, [], ◌∷◌, ℕ, eqb, ltb, pos, Float, length, Option, Some, None}
 use Rattle.std.specs.Bool.{beq}
 use Rattle.std.specs.Float.{fin, binary64}
 use Rattle.std.specs.Float.Ieee.{add, to_bits}
@@ -11,7 +11,7 @@ use Rattle.distance.specs.Steps.{root_three, two_float}
 use Rattle.cell.specs.Cell.{frame_of, resolution_of, coord_of, x_of, packed, same_cell}
 use Rattle.cell.specs.Bytes.{cell_at, cell_width}
 use Rattle.cell.specs.Lists.{is_list, cells_of}
-use Rattle.table.specs.Records.{Row, Held, nothing, held, held_of, rows_of, is_sound, flag_width, Layer}
+use Rattle.table.specs.Records.{Row, held_of, rows_of, is_sound, flag_width, Layer}
 use Rattle.table.specs.Flags.{is_blocked}
 use Rattle.general.specs.Refuse.{refuse_if, refuse_unless}
 
@@ -40,9 +40,9 @@ cost_between a b = cond (beq (is_odd (x_of a)) (is_odd (x_of b))) two_float root
 -- ---- blocked cells
 
 -- whether the flags that are kept of a cell block it
-abbrev pub blocked_by : Held → Bool
-blocked_by nothing = false
-blocked_by (held flags) = is_blocked flags
+abbrev pub blocked_by : Option ℕ → Bool
+blocked_by None = false
+blocked_by (Some flags) = is_blocked flags
 
 -- rule 0 is free, 1 avoids blocked cells
 unfoldable pub is_shut : ℕ → List Row → Cell → Bool

@@ -60,14 +60,12 @@ pub fn is_shut(flags: &[u8], count: usize, rule: u32, c: Cell) -> bool
     requires { is_sound flag_width flags.now count ≡ true }
     ensures { result ≡ is_shut rule (rows_of flag_width flags.now count) c }
 {
-    if rule == 1 {
-        let place = table::find(flags, table::FLAG_WIDTH, count, c);
-        match place {
-            Ok(i) => table::flags::is_blocked(table::kept_at(flags, table::FLAG_WIDTH, i) as u32),
-            Err(_i) => false,
-        }
-    } else {
-        false
+    if rule != 1 {
+        return false;
+    }
+    match table::held(flags, table::FLAG_WIDTH, count, c) {
+        Some(kept) => table::flags::is_blocked(kept as u32),
+        None => false,
     }
 }
 

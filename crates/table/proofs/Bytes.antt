@@ -1,5 +1,6 @@
 -- Rows and their bytes make each other again: rows that are laid into a table are read from it, and to lay what was read changes nothing. Over the width of a record,
 -- which is 16 bytes of cell at least.
+use Rattle.std.specs.Prelude.{Option, Some, None}
 use mathlib.Core.Path.{◌≡◌, refl, sym, ap, ap₂, ◌∙◌}
 use mathlib.Core.Bool.{Bool, true, false, cond}
 use mathlib.Core.List.{List, [], ◌∷◌, ◌++◌, flat_map, append_assoc}
@@ -15,7 +16,7 @@ use Rattle.cell.specs.Cell.{same_cell, less_cell}
 use Rattle.cell.specs.Bytes.{cell_at, cell_bytes}
 use Rattle.cell.proofs.Stored.{length-cell_bytes}
 use Rattle.cell.proofs.BytesLaws.{cell-bytes-part, cell-words}
-use Rattle.table.specs.Records.{Row, Held, nothing, held, held_of, row_at, rows_from, rows_of, row_bytes, laid, with_row, without_cell}
+use Rattle.table.specs.Records.{Row, held_of, row_at, rows_from, rows_of, row_bytes, laid, with_row, without_cell}
 use Rattle.table.specs.Terms.{Storable, AllStorable, no_rows, one_more}
 
 -- ---- one row
@@ -185,11 +186,11 @@ without-storable w c (r ∷ rs) (one_more g a) = remove-storable w c r rs (same_
 -- ---- what is kept of a cell
 
 -- a record of w bytes has room for it
-abbrev pub Small : ℕ → Held → Type 0
-Small w nothing = Unit {0}
-Small w (held k) = k < 256 ^ (w - 16)
+abbrev pub Small : ℕ → Option ℕ → Type 0
+Small w None = Unit {0}
+Small w (Some k) = k < 256 ^ (w - 16)
 
-either-small : (w : ℕ) (same : Bool) (k : ℕ) (h : Held) → k < 256 ^ (w - 16) → Small w h → Small w (cond same (held k) h)
+either-small : (w : ℕ) (same : Bool) (k : ℕ) (h : Option ℕ) → k < 256 ^ (w - 16) → Small w h → Small w (cond same (Some k) h)
 either-small w true k h p q = p
 either-small w false k h p q = q
 

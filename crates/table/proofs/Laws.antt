@@ -1,5 +1,5 @@
 -- What follows of records that ascend, by their indices.
-use Rattle.std.specs.Prelude.{Result, Ok, Err}
+use Rattle.std.specs.Prelude.{Result, Ok, Err, Some, None}
 use mathlib.Core.Path.{◌≡◌, refl, sym, ap, ap₂, subst, ◌∙◌}
 use mathlib.Core.Bool.{Bool, true, false, cond, ◌&&◌, true≢false}
 use mathlib.Core.List.{List, [], ◌∷◌, ◌++◌}
@@ -19,7 +19,7 @@ use Rattle.cell.specs.Cell.{same_cell, less_cell}
 use Rattle.cell.specs.Bytes.{cell_at}
 use Rattle.cell.proofs.Laws.{less-transitive}
 use Rattle.general.proofs.Tests.{both}
-use Rattle.table.specs.Records.{most_cells, room_for, row_at, rows_from, rows_of, ascending, first_fall, is_sound, held, nothing, held_of, Row}
+use Rattle.table.specs.Records.{most_cells, room_for, row_at, rows_from, rows_of, ascending, first_fall, is_sound, held_of, Row}
 use Rattle.table.specs.Inner.Places.{Stands}
 use Rattle.table.specs.Terms.{FallsAt}
 use Rattle.table.proofs.Bytes.{length-rows_from}
@@ -190,23 +190,23 @@ module _ (w : ℕ) (l : List ℕ) where
 
 module _ (w : ℕ) (l : List ℕ) (c : Cell) where
   -- of the n records from i on, k is the first of the cell's
-  first-held : (n i k : ℕ) → i ≤ k → k < i + n → ((j : ℕ) → j < k → same_cell (row_at w l j).cell c ≡ false) → same_cell (row_at w l k).cell c ≡ true → held_of c (rows_from w l i n) ≡ held (row_at w l k).kept
+  first-held : (n i k : ℕ) → i ≤ k → k < i + n → ((j : ℕ) → j < k → same_cell (row_at w l j).cell c ≡ false) → same_cell (row_at w l k).cell c ≡ true → held_of c (rows_from w l i n) ≡ Some (row_at w l k).kept
   unfolding rows_from held_of
   first-held zero i k a b before e = absurd (omega arith)
   first-held (suc n) i k a b before e =
       ⊎_elim
-      (λ (q : i ≡ k). rw (ap (λ (j : ℕ). same_cell (row_at w l j).cell c) q ∙ e) (ap (λ (j : ℕ). held (row_at w l j).kept) q))
+      (λ (q : i ≡ k). rw (ap (λ (j : ℕ). same_cell (row_at w l j).cell c) q ∙ e) (ap (λ (j : ℕ). Some (row_at w l j).kept) q))
       (λ (q : i < k). rw (before i q) (first-held n (suc i) k (omega arith) (omega arith) before e))
       (eq-or-lt_of_le a)
 
   -- none of the n records from i on is the cell's
-  none-held : (n i : ℕ) → ((k : ℕ) → k < i + n → same_cell (row_at w l k).cell c ≡ false) → held_of c (rows_from w l i n) ≡ nothing
+  none-held : (n i : ℕ) → ((k : ℕ) → k < i + n → same_cell (row_at w l k).cell c ≡ false) → held_of c (rows_from w l i n) ≡ None
   unfolding rows_from held_of
   none-held zero i h = refl
   none-held (suc n) i h = rw (h i (omega arith)) (none-held n (suc i) (λ k b. h k (omega arith)))
 
   -- where the search finds a cell, what is kept there is what the layer holds of it
-  pub find-is-held : (n i : ℕ) → is_sound w l n ≡ true → Stands w l n c (Ok i) → held_of c (rows_of w l n) ≡ held (row_at w l i).kept
+  pub find-is-held : (n i : ℕ) → is_sound w l n ≡ true → Stands w l n c (Ok i) → held_of c (rows_of w l n) ≡ Some (row_at w l i).kept
   unfolding rows_of Stands
   find-is-held n i sound s = first-held n 0 i (omega arith) (omega (arith, s.within)) differs s.same
     where
@@ -218,7 +218,7 @@ module _ (w : ℕ) (l : List ℕ) (c : Cell) where
           (λ q. omega (arith, eqb-true (raw_of here) (raw_of c) s.same, ltb-true (raw_of d) (raw_of here) (sound-less w l n sound i j h s.within)))
 
   -- where it does not, the layer holds nothing of it
-  pub find-is-nothing : (n i : ℕ) → Stands w l n c (Err i) → held_of c (rows_of w l n) ≡ nothing
+  pub find-is-nothing : (n i : ℕ) → Stands w l n c (Err i) → held_of c (rows_of w l n) ≡ None
   unfolding rows_of Stands
   find-is-nothing n i s = none-held n 0 (λ k h. ne_eqb (raw_of (row_at w l k).cell) (raw_of c) (differs k (omega arith) (ltb k i) refl))
     where
@@ -237,8 +237,8 @@ module _ (w : ℕ) (l : List ℕ) (c : Cell) where
   found_within n i e s q = at-within n i e (subst (Stands w l n c) q s)
 
   -- what the layer holds of the cell, by the search's answer and what was read there
-  pub found-held : (n i : ℕ) {p : Result ℕ ℕ} {k : ℕ} → is_sound w l n ≡ true → Stands w l n c p → p ≡ Ok i → k ≡ (row_at w l i).kept → held_of c (rows_of w l n) ≡ held k
-  found-held n i e s q r = find-is-held n i e (subst (Stands w l n c) q s) ∙ ap held (sym r)
+  pub found-held : (n i : ℕ) {p : Result ℕ ℕ} {k : ℕ} → is_sound w l n ≡ true → Stands w l n c p → p ≡ Ok i → k ≡ (row_at w l i).kept → held_of c (rows_of w l n) ≡ Some k
+  found-held n i e s q r = find-is-held n i e (subst (Stands w l n c) q s) ∙ ap Some (sym r)
 
-  pub missing-held : (n i : ℕ) {p : Result ℕ ℕ} → Stands w l n c p → p ≡ Err i → held_of c (rows_of w l n) ≡ nothing
+  pub missing-held : (n i : ℕ) {p : Result ℕ ℕ} → Stands w l n c p → p ≡ Err i → held_of c (rows_of w l n) ≡ None
   missing-held n i s q = find-is-nothing n i (subst (Stands w l n c) q s)

@@ -28,6 +28,9 @@ is-sound-one κs a z z' e e' p q = p ∙ sym q
 pub kept-at-one : OneAnswer 1 here.kept_at.Kinds.ps here.kept_at.Kinds.r here.kept_at.Reads.Post
 kept-at-one κs a z z' e e' p q = p ∙ sym q
 
+pub held-one : OneAnswer 1 here.held.Kinds.ps here.held.Kinds.r here.held.Reads.Post
+held-one κs a z z' e e' p q = p ∙ sym q
+
 -- ---- a cell has one place in a sound table
 
 -- neither of two is below the other

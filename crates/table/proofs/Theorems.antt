@@ -1,4 +1,5 @@
 -- What is shown in this crate beside the contracts of src/: the theorems that docs/PROMISES.md names, in words of specs/. The law behind each is the one that its proof names.
+use Rattle.std.specs.Prelude.{Some, None}
 use mathlib.Core.Path.{◌≡◌}
 use mathlib.Core.List.{List}
 use mathlib.Core.Bool.{cond, true, false}
@@ -9,7 +10,7 @@ use Rattle.refusal.specs.declared.Cell.{Cell}
 use Rattle.words.specs.Word.{Bytes}
 use Rattle.cell.specs.Cell.{same_cell}
 use Rattle.table.specs.Flags.{with_flag, is_blocked}
-use Rattle.table.specs.Records.{Row, rows_of, laid, held, held_of, with_row, nothing, without_cell, ascending, first_fall, room_for, refilled}
+use Rattle.table.specs.Records.{Row, rows_of, laid, held_of, with_row, without_cell, ascending, first_fall, room_for, refilled}
 use Rattle.table.specs.Terms.{AllStorable, Holds, FallsAt}
 use Rattle.table.proofs as laws
 use Rattle.cell.specs.Bytes.{cell_width}
@@ -27,11 +28,11 @@ pub laid-rows : (w : ℕ) (l : List ℕ) (n : ℕ) → cell_width ≤ w → w * 
 laid-rows = laws.Bytes.laid-rows
 
 -- After a set, the records keep of that cell what was set, and of any other what they kept before.
-pub held_with : (c : Cell) (s : Row) (rs : List Row) → held_of c (with_row s rs) ≡ cond (same_cell s.cell c) (held s.kept) (held_of c rs)
+pub held_with : (c : Cell) (s : Row) (rs : List Row) → held_of c (with_row s rs) ≡ cond (same_cell s.cell c) (Some s.kept) (held_of c rs)
 held_with = laws.Map.held_with
 
 -- After a remove from ascending records, they keep of that cell nothing, and of any other what they kept before.
-pub held-without : (c d : Cell) (rs : List Row) → ascending rs ≡ true → held_of c (without_cell d rs) ≡ cond (same_cell d c) nothing (held_of c rs)
+pub held-without : (c d : Cell) (rs : List Row) → ascending rs ≡ true → held_of c (without_cell d rs) ≡ cond (same_cell d c) None (held_of c rs)
 held-without = laws.Map.held-without
 
 -- Rows that do not ascend have a first one that is not above the one before it, and its index is told.

@@ -3,7 +3,7 @@
 #![tactic(auto)]
 
 ghost use Rattle.std.specs.Prelude.{true, ◌≡◌, ◌+◌, ◌*◌, ◌≤◌, length};
-ghost use Rattle.table.specs.Records.{room_for, row_at, rows_of, first_fall, is_sound};
+ghost use Rattle.table.specs.Records.{room_for, row_at, rows_of, held_of, first_fall, is_sound};
 ghost use Rattle.table.specs.Inner.Places.{Wide, Stands};
 
 pub mod flags;
@@ -96,4 +96,16 @@ pub fn kept_at(table: &[u8], width: usize, i: usize) -> u64
         return words::read32_big(table, at) as u64;
     }
     words::read64_big(table, at)
+}
+
+// What a sound layer keeps of a cell, if anything.
+pub fn held(table: &[u8], width: usize, count: usize, c: Cell) -> Option<u64>
+    requires wide { Wide width }
+    requires count_value { is_sound width table.now count ≡ true }
+    ensures { result ≡ held_of c (rows_of width table.now count) }
+{
+    match find(table, width, count, c) {
+        Ok(i) => Some(kept_at(table, width, i)),
+        Err(_) => None,
+    }
 }

@@ -1,12 +1,13 @@
 -- After any chain of C calls on a layer, refused ones among them, what get tells is what the last call that touched the cell left of it: `flags-get-after-calls`, `values-get-after-calls`. Each
 -- call is one step of a history (crates/history), by its own contract.
+use Rattle.std.specs.Prelude.{Option, Some, None}
 use mathlib.Core.Path.{◌≡◌, refl, sym, ap, ap₂, ◌∙◌}
 use mathlib.Core.List.{List}
 use Prim.Native.Nat.{ℕ, ◌-◌}
 use Rattle.refusal.specs.declared.Cell.{Cell}
 use Rattle.cell.specs.declared.CellAnswer.TheVariants as cell
 use Rattle.cell.specs.Bytes.{from_bytes_of}
-use Rattle.table.specs.Records.{Held, nothing, held, Layer, layer}
+use Rattle.table.specs.Records.{Layer, layer}
 use Rattle.layer.specs.Calls.{of_held, held_in}
 use Rattle.general.specs.Changed.{Changed, changed, saying}
 use Rattle.layer.specs.Changes.{set_in, remove_in, clear_in, count_by, left_by}
@@ -135,9 +136,9 @@ calls-after (rollup-unknown {l} {last} {steps} call handed asked rest) =
 
 -- ---- what get tells after it
 
-get-told : (n : ℕ) (h : Held) → kept_by n n (of_held h) ≡ held_told h n
-get-told n (held k) = refl
-get-told n nothing = refl
+get-told : (n : ℕ) (h : Option ℕ) → kept_by n n (of_held h) ≡ held_told h n
+get-told n (Some k) = refl
+get-told n None = refl
 
 get_after : {kind : Kind} {l last : Layer} {steps : List (Step kind)} → IsLayer kind l → AllOfBytes steps → Calls kind l steps last → (table : List ℕ) (n : ℕ) → Handed last table n
     → (id : List ℕ) (c : Cell) → from_bytes_of id ≡ cell.Is c → kept_by n n (held_in (width_of kind) table n id) ≡ held_told (last_left c steps l) last.count

@@ -1,5 +1,6 @@
 -- When the C calls set and remove are answered and when they are refused, with what C is told, over the calls' own contracts: `flags-set-answers` and its like; a refusal changes no byte; and
 -- `flags-room-serves-again`, over a remove and the set after it.
+use Rattle.std.specs.Prelude.{Option, Some, None}
 use mathlib.Core.Path.{◌≡◌, refl, sym, ap, ap₂, ◌∙◌}
 use mathlib.Core.Bool.{Bool, true, false, cond}
 use mathlib.Core.List.{List}
@@ -13,7 +14,7 @@ use Rattle.refusal.specs.declared.Refusal.TheVariants.{BadList}
 use Rattle.words.specs.Word.{Bytes}
 use Rattle.cell.specs.declared.CellAnswer.TheVariants as cell
 use Rattle.cell.specs.Bytes.{cell_at, from_bytes_of}
-use Rattle.table.specs.Records.{Held, nothing, held, room_for, rows_of, held_of, is_sound}
+use Rattle.table.specs.Records.{room_for, rows_of, held_of, is_sound}
 use Rattle.table.proofs.Laws.{sound-room}
 use Rattle.layer.specs.Calls.{of_flags, of_value}
 use Rattle.general.specs.Changed.{Changed, changed, saying}
@@ -36,12 +37,12 @@ layer-case w l n m = by_length (eqb (length m) 16) refl (is_sound w l n) refl (h
     is-cell : eqb (length m) 16 ≡ true → from_bytes_of m ≡ cell.Is (cell_at m 0)
     is-cell e = ap (λ (t : Bool). cond t (cell.Is (cell_at m 0)) (cell.Refused BadList)) e
 
-    by_length : (sixteen : Bool) → eqb (length m) 16 ≡ sixteen → (sound : Bool) → is_sound w l n ≡ sound → (h : Held) → held_of (cell_at m 0) (rows_of w l n) ≡ h → (room : Bool) → ltb n (room_for w l) ≡ room → LayerCase w l n m
+    by_length : (sixteen : Bool) → eqb (length m) 16 ≡ sixteen → (sound : Bool) → is_sound w l n ≡ sound → (h : Option ℕ) → held_of (cell_at m 0) (rows_of w l n) ≡ h → (room : Bool) → ltb n (room_for w l) ≡ room → LayerCase w l n m
     by_length false e sound f h g room i = no_cell (eqb-false (length m) 16 e)
     by_length true e false f h g room i = no-layer (cell_at m 0) (is-cell e) f
-    by_length true e true f (held v) g room i = kept-cell (cell_at m 0) v (is-cell e) f g
-    by_length true e true f nothing g true i = new-cell (cell_at m 0) (is-cell e) f g (ltb-true n (room_for w l) i)
-    by_length true e true f nothing g false i = full-layer (cell_at m 0) (is-cell e) f g (omega (arith, ltb-false n (room_for w l) i, sound-room w l n f))
+    by_length true e true f (Some v) g room i = kept-cell (cell_at m 0) v (is-cell e) f g
+    by_length true e true f None g true i = new-cell (cell_at m 0) (is-cell e) f g (ltb-true n (room_for w l) i)
+    by_length true e true f None g false i = full-layer (cell_at m 0) (is-cell e) f g (omega (arith, ltb-false n (room_for w l) i, sound-room w l n f))
 
 -- ---- set
 
@@ -154,7 +155,7 @@ values-remove-missing call bytes missing = missing-unchanged 24 call.arguments.0
 
 serves-again : (w : ℕ) (l : List ℕ) (n : ℕ) (m : List ℕ) (r : KeptTold) (x : List ℕ) (q : List ℕ) (k : ℕ) (t : CountTold) (y : List ℕ) (c : Cell) (v : ℕ) (d : Cell) → 16 ≤ w → Bytes l
     → r ≡ kept_by n (n - 1) (remove_in w l n m).said → x ≡ (remove_in w l n m).bytes → changed t y ≡ saying (of_count r.count) (set_in w x r.count q k)
-    → from_bytes_of m ≡ cell.Is c → is_sound w l n ≡ true → held_of c (rows_of w l n) ≡ held v → from_bytes_of q ≡ cell.Is d → held_of d (rows_of w x r.count) ≡ nothing → t ≡ telling_count 0 0 n
+    → from_bytes_of m ≡ cell.Is c → is_sound w l n ≡ true → held_of c (rows_of w l n) ≡ Some v → from_bytes_of q ≡ cell.Is d → held_of d (rows_of w x r.count) ≡ None → t ≡ telling_count 0 0 n
 serves-again w l n m r x q k t y c v d least bytes said left met read sound e other new =
     let less : r.count ≡ n - 1 = ap (λ (z : KeptTold). z.count) (said ∙ ap (kept_by n (n - 1)) (remove-kept w l n m c read sound v e)) in
     ap (λ (z : Changed CountTold). z.said) met
@@ -163,9 +164,9 @@ serves-again w l n m r x q k t y c v d least bytes said left met read sound e ot
 -- a remove of a cell that a flag layer kept, and then a set of a cell that it does not keep, in the table and with the count that the remove left: C is told as many cells as before, and no refusal
 pub flags-room-serves-again : (removing : FlagsRemove) (setting : FlagsSet) (c : Cell) (v : ℕ) (d : Cell)
     → let table = removing.arguments.0.now in let n = removing.arguments.1.0 in let left = removing.exit.0.now in
-    Bytes table → from_bytes_of removing.arguments.1.1.0.now ≡ cell.Is c → is_sound 20 table n ≡ true → held_of c (rows_of 20 table n) ≡ held v
+    Bytes table → from_bytes_of removing.arguments.1.1.0.now ≡ cell.Is c → is_sound 20 table n ≡ true → held_of c (rows_of 20 table n) ≡ Some v
     → setting.arguments.0.now ≡ left → setting.arguments.1.0 ≡ removing.told.count
-    → from_bytes_of setting.arguments.1.1.0.now ≡ cell.Is d → held_of d (rows_of 20 left removing.told.count) ≡ nothing → setting.told ≡ telling_count 0 0 n
+    → from_bytes_of setting.arguments.1.1.0.now ≡ cell.Is d → held_of d (rows_of 20 left removing.told.count) ≡ None → setting.told ≡ telling_count 0 0 n
 flags-room-serves-again removing setting c v d bytes read sound e table count other new =
     serves-again 20 removing.arguments.0.now removing.arguments.1.0 removing.arguments.1.1.0.now removing.told removing.exit.0.now setting.arguments.1.1.0.now setting.arguments.1.1.1.0 setting.told setting.exit.0.now c v d
     (omega arith) bytes (flags-removed removing) (ap (λ (z : Changed KeptTold). z.bytes) removing.meets)
@@ -175,9 +176,9 @@ flags-room-serves-again removing setting c v d bytes read sound e table count ot
 -- the same of a value layer
 pub values-room-serves-again : (removing : ValuesRemove) (setting : ValuesSet) (c : Cell) (v : ℕ) (d : Cell)
     → let table = removing.arguments.0.now in let n = removing.arguments.1.0 in let left = removing.exit.0.now in
-    Bytes table → from_bytes_of removing.arguments.1.1.0.now ≡ cell.Is c → is_sound 24 table n ≡ true → held_of c (rows_of 24 table n) ≡ held v
+    Bytes table → from_bytes_of removing.arguments.1.1.0.now ≡ cell.Is c → is_sound 24 table n ≡ true → held_of c (rows_of 24 table n) ≡ Some v
     → setting.arguments.0.now ≡ left → setting.arguments.1.0 ≡ removing.told.count
-    → from_bytes_of setting.arguments.1.1.0.now ≡ cell.Is d → held_of d (rows_of 24 left removing.told.count) ≡ nothing → setting.told ≡ telling_count 0 0 n
+    → from_bytes_of setting.arguments.1.1.0.now ≡ cell.Is d → held_of d (rows_of 24 left removing.told.count) ≡ None → setting.told ≡ telling_count 0 0 n
 values-room-serves-again removing setting c v d bytes read sound e table count other new =
     serves-again 24 removing.arguments.0.now removing.arguments.1.0 removing.arguments.1.1.0.now removing.told removing.exit.0.now setting.arguments.1.1.0.now setting.arguments.1.1.1.0 setting.told setting.exit.0.now c v d
     (omega arith) bytes (values-removed removing) (ap (λ (z : Changed KeptTold). z.bytes) removing.meets)

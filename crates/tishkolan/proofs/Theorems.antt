@@ -1,5 +1,6 @@
 -- What is shown of the calls that C makes, beside their contracts: the theorems that docs/PROMISES.md names, over the calls of Calls.antt and in words of specs/. The law behind each is
 -- the one that its proof names.
+use Rattle.std.specs.Prelude.{Some, None}
 use mathlib.Core.Path.{◌≡◌}
 use mathlib.Core.Logic.{◌↔◌, ◌⊎◌}
 use mathlib.Core.Bool.{true}
@@ -12,7 +13,7 @@ use Rattle.lattice.specs.Lattice.{at, is_lattice_point}
 use Rattle.cell.specs.declared.CellAnswer.TheVariants as cell
 use Rattle.cell.specs.Bytes.{from_bytes_of, cell_width}
 use Rattle.label.specs.Terms.{uppered, IsLabel}
-use Rattle.table.specs.Records.{Layer, nothing, held, held_of, rows_of, is_sound, flag_width, value_width}
+use Rattle.table.specs.Records.{Layer, held_of, rows_of, is_sound, flag_width, value_width}
 use Rattle.file.specs.declared.Sections.{Sections}
 use Rattle.file.specs.File.{sections_of}
 use Rattle.file.specs.Terms.{IsFile}
@@ -138,9 +139,9 @@ pub flags-room-serves-again :
     → let table = removing.arguments.0.now in
     let n = removing.arguments.1.0 in
     let left = removing.exit.0.now in
-    Bytes table → from_bytes_of removing.arguments.1.1.0.now ≡ cell.Is c → is_sound flag_width table n ≡ true → held_of c (rows_of flag_width table n) ≡ held v
+    Bytes table → from_bytes_of removing.arguments.1.1.0.now ≡ cell.Is c → is_sound flag_width table n ≡ true → held_of c (rows_of flag_width table n) ≡ Some v
     → setting.arguments.0.now ≡ left → setting.arguments.1.0 ≡ removing.told.count
-    → from_bytes_of setting.arguments.1.1.0.now ≡ cell.Is d → held_of d (rows_of flag_width left removing.told.count) ≡ nothing → setting.told ≡ telling_count 0 0 n
+    → from_bytes_of setting.arguments.1.1.0.now ≡ cell.Is d → held_of d (rows_of flag_width left removing.told.count) ≡ None → setting.told ≡ telling_count 0 0 n
 flags-room-serves-again = laws.LayerAnswers.flags-room-serves-again
 
 -- After a remove of a cell that a value layer kept, a full one among them, a set of a cell that it does not keep then is answered, and the layer has as many cells as before.
@@ -149,9 +150,9 @@ pub values-room-serves-again :
     → let table = removing.arguments.0.now in
     let n = removing.arguments.1.0 in
     let left = removing.exit.0.now in
-    Bytes table → from_bytes_of removing.arguments.1.1.0.now ≡ cell.Is c → is_sound value_width table n ≡ true → held_of c (rows_of value_width table n) ≡ held v
+    Bytes table → from_bytes_of removing.arguments.1.1.0.now ≡ cell.Is c → is_sound value_width table n ≡ true → held_of c (rows_of value_width table n) ≡ Some v
     → setting.arguments.0.now ≡ left → setting.arguments.1.0 ≡ removing.told.count
-    → from_bytes_of setting.arguments.1.1.0.now ≡ cell.Is d → held_of d (rows_of value_width left removing.told.count) ≡ nothing → setting.told ≡ telling_count 0 0 n
+    → from_bytes_of setting.arguments.1.1.0.now ≡ cell.Is d → held_of d (rows_of value_width left removing.told.count) ≡ None → setting.told ≡ telling_count 0 0 n
 values-room-serves-again = laws.LayerAnswers.values-room-serves-again
 
 -- ---- points and cells
