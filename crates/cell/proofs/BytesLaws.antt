@@ -1,5 +1,6 @@
 -- What follows from the definitions of a cell's bytes: a cell and its 16 bytes make each other again, alone and within a longer list, cells are ordered as their bytes
 -- are, and a list of cells has them at every sixteenth byte.
+use Rattle.std.specs.Prelude.{Ok, Err}
 use mathlib.Core.Bool.{Bool, cond, true, false}
 use mathlib.Core.List.{List, [], ◌∷◌, ◌++◌, reverse, append_assoc, append-nil}
 use mathlib.Core.Path.{◌≡◌, refl, sym, ap, ap₂, ◌∙◌, subst}
@@ -17,7 +18,6 @@ use Rattle.refusal.specs.declared.Refusal.TheVariants.{BadList}
 use Rattle.words.specs.Word.{big, number, ordered, word, stored, Bytes}
 use Rattle.words.proofs.Word.{Apart}
 use Rattle.words.proofs.Laws.{length-stored, word-stored, word-stored-apart, bytes_of-part, word-drop, word_lt, word-split-big}
-use Rattle.cell.specs.declared.CellAnswer.TheVariants.{Is}
 use Rattle.cell.specs.Bytes.{cell_at, cell_bytes, from_bytes_of, bytes_less}
 use Rattle.cell.specs.Inner.Bytes.{cell_stored}
 use Rattle.cell.specs.Lists.{cells_from, cells_of}
@@ -26,7 +26,6 @@ use Rattle.cell.specs.Cell.{less_cell}
 use Rattle.cell.proofs.Stored as bytes
 use Rattle.cell.specs.Terms.{Words}
 use Rattle.cell.proofs.Bits.{less-digits}
-use Rattle.cell.specs.declared.CellAnswer.TheVariants as cell
 
 -- ---- a stored cell
 
@@ -61,7 +60,7 @@ cell-stored-apart l p c q h = λ i. record { high = kept q (omega arith) (omega 
 -- ---- a cell and its 16 bytes
 
 -- "`from_bytes` takes all 16-byte values"
-pub sixteen-bytes : (l : List ℕ) → length l ≡ 16 → from_bytes_of l ≡ Is (cell_at l 0)
+pub sixteen-bytes : (l : List ℕ) → length l ≡ 16 → from_bytes_of l ≡ Ok (cell_at l 0)
 unfolding from_bytes_of
 sixteen-bytes l e = rw (eq-eqb (length l) 16 e)
 
@@ -76,8 +75,8 @@ cell-read-back c w =
     let zeros : List ℕ = replicate 16 0 in
     ap (λ (l : List ℕ). cell_at l 0) (sym (cell-stored-whole zeros c refl)) ∙ cell-stored zeros 0 c (omega arith) w
 
-pub bytes-read-back : (c : Cell) → Words c → from_bytes_of (cell_bytes c) ≡ Is c
-bytes-read-back c w = sixteen-bytes (cell_bytes c) (length-cell_bytes c) ∙ ap Is (cell-read-back c w)
+pub bytes-read-back : (c : Cell) → Words c → from_bytes_of (cell_bytes c) ≡ Ok c
+bytes-read-back c w = sixteen-bytes (cell_bytes c) (length-cell_bytes c) ∙ ap Ok (cell-read-back c w)
 
 -- the bytes of the cell at p are those that stand there
 pub cell-bytes-part : (l : List ℕ) (p : ℕ) → p + 16 ≤ length l → Bytes l → cell_bytes (cell_at l p) ≡ take 16 (drop p l)
@@ -171,10 +170,10 @@ unfolding cells_of
 cell-at-index l i d h = cell-from-index l 0 (length l / 16) i d h ∙ ap (λ (j : ℕ). cell_at l (16 * j)) (omega arith)
 
 -- the cell of 16 bytes is one of two words
-pub read-words : (m : List ℕ) (c : Cell) → Bytes m → from_bytes_of m ≡ cell.Is c → Words c
+pub read-words : (m : List ℕ) (c : Cell) → Bytes m → from_bytes_of m ≡ Ok c → Words c
 unfolding from_bytes_of cell_at
 read-words m c b e = by_length (eqb (length m) 16) e
   where
-    by_length : (t : Bool) → cond t (cell.Is (cell_at m 0)) (cell.Refused BadList) ≡ cell.Is c → Words c
+    by_length : (t : Bool) → cond t (Ok (cell_at m 0)) (Err BadList) ≡ Ok c → Words c
     by_length true q = let same : cell_at m 0 ≡ c = cc in subst Words same (cell-words m 0 b)
     by_length false q = absurd (let z : ◌≡◌ {A = ℕ} 0 1 = cc in omega arith)

@@ -1,5 +1,6 @@
 -- What follows from the definitions of the packed cell alone: packing and unpacking undo each other, plain cells, children and parents, neighbours, equality.
 -- `List.Memᴰ k l` says that k is a member of l: it is a place at which l has k.
+use Rattle.std.specs.Prelude.{List, Result, Ok, Err}
 use mathlib.Core.Path.{◌≡◌, refl, sym, ap, ap₂, subst, ◌∙◌}
 use mathlib.Core.Logic.{◌↔◌}
 use mathlib.Core.Bool.{Bool, true, false, cond}
@@ -18,13 +19,8 @@ use Rattle.refusal.specs.declared.Coord.{Coord}
 use Rattle.refusal.specs.declared.Cell.{Cell}
 use Rattle.refusal.specs.declared.Refusal.{Refusal}
 use Rattle.refusal.specs.declared.Refusal.TheVariants.{NoChildren, CoordOverflow}
-use Rattle.refusal.specs.declared.Outcome.TheVariants as outcome
 use Rattle.refusal.specs.Refusals.{raw_of, cell_of}
 use Rattle.lattice.specs.declared.Parity.{Parity}
-use Rattle.lattice.specs.declared.ParityAnswer.{ParityAnswer}
-use Rattle.lattice.specs.declared.ParityAnswer.TheVariants as parity
-use Rattle.lattice.specs.declared.CoordAnswer.{CoordAnswer}
-use Rattle.lattice.specs.declared.CoordAnswer.TheVariants as coord
 use Rattle.lattice.specs.Lattice as lattice
 use Rattle.lattice.specs.Lattice.{at, Fitting, is_lattice_point, parity_of, neighbor_places, child_places, has_neighbor_room, has_child_room, manhattan}
 use Rattle.lattice.proofs.Laws as lattice-laws
@@ -32,9 +28,8 @@ use Rattle.lattice.proofs.Laws.{parity-point, neighbor-symmetric, room_fits, chi
 use Rattle.lattice.specs.Middle.{middle}
 use Rattle.lattice.proofs.Fields.{kept_same}
 use Rattle.general.proofs.Tests.{three}
-use Rattle.cell.specs.declared.CellAnswer.TheVariants.{Is}
-use Rattle.cell.specs.declared.Children.{Children}
-use Rattle.cell.specs.Cell.{frame_of, resolution_of, exponent_of, flags_of, reserved_of, coord_of, packed, new_of, is_plain, plain_at, plain_twin, same_cell, less_cell, near_cells, child_cells, no_children, children_of, parent_at, parent_of}
+use Rattle.cell.specs.Cell.{frame_of, resolution_of, exponent_of, flags_of, reserved_of, coord_of, packed, new_of, is_plain, plain_at, plain_twin, same_cell, less_cell, near_cells, child_cells, children_of, parent_at, parent_of}
+use Rattle.general.proofs.Results.{ok-path, err-is-no-ok}
 use Rattle.cell.proofs.Split.{new_by, children_in, children_by}
 use Rattle.cell.proofs.Bits.{low_word, low_parts, low-word, low-whole, high_parts, same_digits}
 use Rattle.cell.specs.Terms.{Words, ReadsBack, HasChildren, Standing, is_below, is-equal, is-above}
@@ -80,16 +75,16 @@ packed-fields c w e =
     λ i. record { high = high i; low = low i }
 
 -- so `new` makes such a cell again from its fields, if its place is a lattice point
-pub new-fields : (c : Cell) (p : Parity) → Words c → reserved_of c ≡ 0 → parity_of (coord_of c) ≡ parity.Is p → new_of (frame_of c) (resolution_of c) (coord_of c) (exponent_of c) (flags_of c) ≡ Is c
+pub new-fields : (c : Cell) (p : Parity) → Words c → reserved_of c ≡ 0 → parity_of (coord_of c) ≡ Ok p → new_of (frame_of c) (resolution_of c) (coord_of c) (exponent_of c) (flags_of c) ≡ Ok c
 unfolding new_of
-new-fields c p w e q = rw q (ap Is (packed-fields c w e))
+new-fields c p w e q = rw q (ap Ok (packed-fields c w e))
 
-made : (a : ParityAnswer) (c k : Cell) → new_by a c ≡ Is k → c ≡ k
-made (parity.Refused r) c k e = cc
-made (parity.Is p) c k e = cc
+made : (a : Result Parity Refusal) (c k : Cell) → new_by a c ≡ Ok k → c ≡ k
+made (Err r) c k e = cc
+made (Ok p) c k e = cc
 
 -- the cell that `new` answers has the fields that it was given
-pub new-reads-back : (frame resolution : ℕ) (c : Coord) (exponent flags : ℕ) (k : Cell) → frame < 256 → resolution < 256 → flags < 256 → Fitting c → new_of frame resolution c exponent flags ≡ Is k → ReadsBack frame resolution c exponent flags k
+pub new-reads-back : (frame resolution : ℕ) (c : Coord) (exponent flags : ℕ) (k : Cell) → frame < 256 → resolution < 256 → flags < 256 → Fitting c → new_of frame resolution c exponent flags ≡ Ok k → ReadsBack frame resolution c exponent flags k
 unfolding new_of
 new-reads-back frame resolution c exponent flags k hf hr hg fits e =
     subst (ReadsBack frame resolution c exponent flags) (made (parity_of c) (packed frame resolution c exponent flags) k e) (fields-packed frame resolution c exponent flags hf hr hg fits)
@@ -119,58 +114,54 @@ unfolding parent_of
 parent-by-place c h = rw (ne_eqb (resolution_of c) 0 h)
 
 -- the parent of a cell, by its fields
-parent_by : (k : Cell) (frame resolution : ℕ) (d p : Coord) → frame_of k ≡ frame → resolution_of k ≡ resolution + 1 → coord_of k ≡ d → lattice.parent_of d ≡ coord.At p → parent_of k ≡ Is (plain_at frame resolution p)
+parent_by : (k : Cell) (frame resolution : ℕ) (d p : Coord) → frame_of k ≡ frame → resolution_of k ≡ resolution + 1 → coord_of k ≡ d → lattice.parent_of d ≡ Ok p → parent_of k ≡ Ok (plain_at frame resolution p)
 parent_by k frame resolution d p f r e h =
     parent-by-place k (λ z. omega arith)
-    ∙ ap (λ (a : CoordAnswer). parent_at a k) (ap lattice.parent_of e ∙ h)
-    ∙ ap₂ (λ (f r : ℕ). Is (plain_at f r p)) f (omega arith)
+    ∙ ap (λ (a : Result Coord Refusal). parent_at a k) (ap lattice.parent_of e ∙ h)
+    ∙ ap₂ (λ (f r : ℕ). Ok (plain_at f r p)) f (omega arith)
 
 -- the parent of each child is the cell's plain twin
-pub child-parent : (c k : Cell) → HasChildren c → Memᴰ k (child_cells c) → parent_of k ≡ Is (plain_twin c)
+pub child-parent : (c k : Cell) → HasChildren c → Memᴰ k (child_cells c) → parent_of k ≡ Ok (plain_twin c)
 unfolding child_cells plain_twin
 child-parent c k h m =
     let frame : frame_of c < 256 = omega arith in
     let t = Memᴰ.of_map (plain_at (frame_of c) (resolution_of c + 1)) (child_places (coord_of c)) m in
     let b = fields-packed (frame_of c) (resolution_of c + 1) t.0 0 0 frame (omega arith) (omega arith) (child-room-fits (coord_of c) t.0 h.room t.1) in
-    subst (λ (k : Cell). parent_of k ≡ Is (plain_at (frame_of c) (resolution_of c) (coord_of c))) t.2
+    subst (λ (k : Cell). parent_of k ≡ Ok (plain_at (frame_of c) (resolution_of c) (coord_of c))) t.2
     (parent_by (plain_at (frame_of c) (resolution_of c + 1) t.0) (frame_of c) (resolution_of c) t.0 (coord_of c) b.frame_back b.resolution-back b.coord-back (lattice-laws.child-parent (coord_of c) t.0 h.point t.1))
 
 -- and of a plain cell's children, the cell itself
-pub plain-child-parent : (c k : Cell) → Words c → is_plain c ≡ true → HasChildren c → Memᴰ k (child_cells c) → parent_of k ≡ Is c
-plain-child-parent c k w e h m = child-parent c k h m ∙ ap Is (plain-twin c w e)
+pub plain-child-parent : (c k : Cell) → Words c → is_plain c ≡ true → HasChildren c → Memᴰ k (child_cells c) → parent_of k ≡ Ok c
+plain-child-parent c k w e h m = child-parent c k h m ∙ ap Ok (plain-twin c w e)
 
 -- an answer that holds the children of a cell that has them
-pub record Answers (c : Cell) (a : Children) : Type 0 where
+pub record Answers (c : Cell) (l : List Cell) : Type 0 where
   pub has : HasChildren c
-  pub are : a.cells ≡ child_cells c
+  pub are : l ≡ child_cells c
 
--- a refusal is no answer
-pub refused-answered : (r : Refusal) → outcome.Refused r ≡ outcome.Answered → ⊥
-refused-answered r e = let z : ◌≡◌ {A = ℕ} 0 1 = cc in omega arith
+answered-in : (c : Cell) (l : List Cell) (t : Bool) → has_child_room (coord_of c) ≡ t → resolution_of c < 255 → is_lattice_point (coord_of c) ≡ true → children_in t c ≡ Ok l → Answers c l
+answered-in c l true room r p e = record { has = record { coarser = r; point = p; room = room }; are = sym (ok-path e) }
+answered-in c l false room r p e = absurd (err-is-no-ok e)
 
-answered-in : (c : Cell) (t : Bool) → has_child_room (coord_of c) ≡ t → resolution_of c < 255 → is_lattice_point (coord_of c) ≡ true → (children_in t c).outcome ≡ outcome.Answered → Answers c (children_in t c)
-answered-in c true room r p e = record { has = record { coarser = r; point = p; room = room }; are = refl }
-answered-in c false room r p e = absurd (refused-answered CoordOverflow e)
-
-answered-by : (c : Cell) (a : ParityAnswer) → parity_of (coord_of c) ≡ a → resolution_of c < 255 → (children_by a c).outcome ≡ outcome.Answered → Answers c (children_by a c)
-answered-by c (parity.Refused x) q r e = absurd (refused-answered x e)
-answered-by c (parity.Is p) q r e = answered-in c (has_child_room (coord_of c)) refl r (parity-point (coord_of c) p q) e
+answered-by : (c : Cell) (l : List Cell) (a : Result Parity Refusal) → parity_of (coord_of c) ≡ a → resolution_of c < 255 → children_by a c ≡ Ok l → Answers c l
+answered-by c l (Err x) q r e = absurd (err-is-no-ok e)
+answered-by c l (Ok p) q r e = answered-in c l (has_child_room (coord_of c)) refl r (parity-point (coord_of c) p q) e
 
 not-finest : (n : ℕ) → n < 256 → (n ≡ 255 → ⊥) → n < 255
 not-finest n h g = omega arith
 
-answered : (c : Cell) (t : Bool) → eqb (resolution_of c) 255 ≡ t → (cond t (no_children NoChildren) (children_by (parity_of (coord_of c)) c)).outcome ≡ outcome.Answered → Answers c (cond t (no_children NoChildren) (children_by (parity_of (coord_of c)) c))
-answered c true q e = absurd (refused-answered NoChildren e)
-answered c false q e = answered-by c (parity_of (coord_of c)) refl (not-finest (resolution_of c) (omega arith) (eqb-false (resolution_of c) 255 q)) e
+answered : (c : Cell) (l : List Cell) (t : Bool) → eqb (resolution_of c) 255 ≡ t → cond t (Err NoChildren) (children_by (parity_of (coord_of c)) c) ≡ Ok l → Answers c l
+answered c l true q e = absurd (err-is-no-ok e)
+answered c l false q e = answered-by c l (parity_of (coord_of c)) refl (not-finest (resolution_of c) (omega arith) (eqb-false (resolution_of c) 255 q)) e
 
 -- where `children` answers, the cell has children, and the answer holds them
-pub children-answered : (c : Cell) → (children_of c).outcome ≡ outcome.Answered → Answers c (children_of c)
+pub children-answered : (c : Cell) (l : List Cell) → children_of c ≡ Ok l → Answers c l
 unfolding children_of
-children-answered c e = answered c (eqb (resolution_of c) 255) refl e
+children-answered c l e = answered c l (eqb (resolution_of c) 255) refl e
 
 -- so of each child that is answered, the parent is the cell's plain twin
-pub answered-child-parent : (c k : Cell) → (children_of c).outcome ≡ outcome.Answered → Memᴰ k (children_of c).cells → parent_of k ≡ Is (plain_twin c)
-answered-child-parent c k e m = let a = children-answered c e in child-parent c k a.has (subst (Memᴰ k) a.are m)
+pub answered-child-parent : (c k : Cell) (l : List Cell) → children_of c ≡ Ok l → Memᴰ k l → parent_of k ≡ Ok (plain_twin c)
+answered-child-parent c k l e m = let a = children-answered c l e in child-parent c k a.has (subst (λ (l : List Cell). Memᴰ k l) a.are m)
 
 -- ---- neighbours
 
@@ -220,5 +211,5 @@ less-total a b v w = standing (less_cell a b) (less_cell b a) refl refl
 -- ---- between two cells
 
 -- why `cell_between` never finds a cell: half way between two cells of one parity at Manhattan distance 2 there is no lattice point
-pub between-is-mixed : (a b : Cell) (p : Parity) → parity_of (coord_of a) ≡ parity.Is p → parity_of (coord_of b) ≡ parity.Is p → manhattan (coord_of a) (coord_of b) ≡ 2 → is_lattice_point (middle (coord_of a) (coord_of b)) ≡ false
+pub between-is-mixed : (a b : Cell) (p : Parity) → parity_of (coord_of a) ≡ Ok p → parity_of (coord_of b) ≡ Ok p → manhattan (coord_of a) (coord_of b) ≡ 2 → is_lattice_point (middle (coord_of a) (coord_of b)) ≡ false
 between-is-mixed a b p e f m = lattice-laws.between-is-mixed (coord_of a) (coord_of b) p e f m

@@ -11,3 +11,5 @@ pub mod OneAnswer
 pub mod Points
 pub mod Differences
 pub mod Split
+pub mod Ordered
+pub mod Spread

@@ -1,4 +1,5 @@
 -- What is shown in this crate beside the contracts of src/: the theorems that docs/PROMISES.md names, in words of specs/. The law behind each is the one that its proof names.
+use Rattle.std.specs.Prelude.{Ok, Err}
 use mathlib.Core.Path.{◌≡◌}
 use mathlib.Core.List.{List, Memᴰ}
 use mathlib.Core.Bool.{true, false}
@@ -7,17 +8,14 @@ use Prim.Native.Nat.{ℕ, ◌<◌}
 use lib.ListN.{length}
 use Rattle.refusal.specs.declared.Cell.{Cell}
 use Rattle.refusal.specs.declared.Coord.{Coord}
-use Rattle.refusal.specs.declared.Outcome.TheVariants as outcome
 use Rattle.refusal.specs.declared.Refusal.TheVariants.{InvalidParity}
 use Rattle.words.specs.Word.{Bytes}
 use Rattle.lattice.specs.Lattice.{Fitting, parity_of, has_neighbor_room, is_lattice_point, manhattan}
 use Rattle.lattice.specs.Middle.{middle}
 use Rattle.lattice.specs.declared.Parity.{Parity}
-use Rattle.lattice.specs.declared.ParityAnswer.TheVariants as parity
 use Rattle.cell.specs.Bytes.{cell_bytes, from_bytes_of, cell_at, bytes_less, cell_width}
 use Rattle.cell.specs.Cell.{packed, frame_of, resolution_of, exponent_of, flags_of, reserved_of, coord_of, new_of, less_cell, same_cell, is_plain, plain_twin, near_cells, child_cells, parent_of, children_of, ancestor_of, between_of}
 use Rattle.cell.specs.Terms.{ReadsBack, Words, Standing, HasChildren, Found, both_between}
-use Rattle.cell.specs.declared.CellAnswer.TheVariants.{Is, Refused}
 use Rattle.cell.proofs as laws
 
 -- Fields that are packed into a cell are read back from it, the exponent modulo 16, and nothing is reserved.
@@ -32,18 +30,18 @@ packed-fields = laws.Laws.packed-fields
 
 -- Where a cell has nothing reserved and its place is a lattice point, `new` makes that cell again from its fields.
 pub new-fields :
-    (c : Cell) (p : Parity) → Words c → reserved_of c ≡ 0 → parity_of (coord_of c) ≡ parity.Is p
-    → new_of (frame_of c) (resolution_of c) (coord_of c) (exponent_of c) (flags_of c) ≡ Is c
+    (c : Cell) (p : Parity) → Words c → reserved_of c ≡ 0 → parity_of (coord_of c) ≡ Ok p
+    → new_of (frame_of c) (resolution_of c) (coord_of c) (exponent_of c) (flags_of c) ≡ Ok c
 new-fields = laws.Laws.new-fields
 
 -- The cell that `new` answers has the fields that it was given, the exponent modulo 16, and nothing reserved.
 pub new-reads-back :
     (frame resolution : ℕ) (c : Coord) (exponent flags : ℕ) (k : Cell) → frame < 256 → resolution < 256 → flags < 256 → Fitting c
-    → new_of frame resolution c exponent flags ≡ Is k → ReadsBack frame resolution c exponent flags k
+    → new_of frame resolution c exponent flags ≡ Ok k → ReadsBack frame resolution c exponent flags k
 new-reads-back = laws.Laws.new-reads-back
 
 -- A cell's 16 bytes are read as that cell.
-pub bytes-read-back : (c : Cell) → Words c → from_bytes_of (cell_bytes c) ≡ Is c
+pub bytes-read-back : (c : Cell) → Words c → from_bytes_of (cell_bytes c) ≡ Ok c
 bytes-read-back = laws.BytesLaws.bytes-read-back
 
 -- 16 bytes that are read as a cell are the bytes of that cell.
@@ -73,29 +71,28 @@ pub neighborhood :
 neighborhood = laws.Laws.neighborhood
 
 -- The parent of each child is the plain twin of the cell that has these children.
-pub child-parent : (c k : Cell) → HasChildren c → Memᴰ k (child_cells c) → parent_of k ≡ Is (plain_twin c)
+pub child-parent : (c k : Cell) → HasChildren c → Memᴰ k (child_cells c) → parent_of k ≡ Ok (plain_twin c)
 child-parent = laws.Laws.child-parent
 
 -- The parent of each child of a plain cell is the cell itself.
-pub plain-child-parent : (c k : Cell) → Words c → is_plain c ≡ true → HasChildren c → Memᴰ k (child_cells c) → parent_of k ≡ Is c
+pub plain-child-parent : (c k : Cell) → Words c → is_plain c ≡ true → HasChildren c → Memᴰ k (child_cells c) → parent_of k ≡ Ok c
 plain-child-parent = laws.Laws.plain-child-parent
 
 -- The parent of each child that is answered is the plain twin of the cell that was asked about.
-pub answered-child-parent :
-    (c k : Cell) → (children_of c).outcome ≡ outcome.Answered → Memᴰ k (children_of c).cells → parent_of k ≡ Is (plain_twin c)
+pub answered-child-parent : (c k : Cell) (l : List Cell) → children_of c ≡ Ok l → Memᴰ k l → parent_of k ≡ Ok (plain_twin c)
 answered-child-parent = laws.Laws.answered-child-parent
 
 -- "else parity, then parents": for a coarser target, a cell at no lattice point is refused for its parity, and one at a lattice point is answered with a plain cell of its frame
 -- and of the target's resolution, at a lattice point.
 pub ancestor-parity :
     (c : Cell) (target : ℕ) → Words c → target < resolution_of c
-    → (is_lattice_point (coord_of c) ≡ false → ancestor_of c target ≡ Refused (InvalidParity (coord_of c)))
+    → (is_lattice_point (coord_of c) ≡ false → ancestor_of c target ≡ Err (InvalidParity (coord_of c)))
     × (is_lattice_point (coord_of c) ≡ true → Found (frame_of c) target (ancestor_of c target))
 ancestor-parity = laws.Ancestors.ancestor-parity
 
 -- Half way between two cells of one parity at Manhattan distance 2 there is no lattice point, which is why `cell_between` never finds a cell.
 pub between-is-mixed :
-    (a b : Cell) (p : Parity) → parity_of (coord_of a) ≡ parity.Is p → parity_of (coord_of b) ≡ parity.Is p → manhattan (coord_of a) (coord_of b) ≡ 2
+    (a b : Cell) (p : Parity) → parity_of (coord_of a) ≡ Ok p → parity_of (coord_of b) ≡ Ok p → manhattan (coord_of a) (coord_of b) ≡ 2
     → is_lattice_point (middle (coord_of a) (coord_of b)) ≡ false
 between-is-mixed = laws.Laws.between-is-mixed
 

@@ -1,12 +1,10 @@
 -- A cell's 16 bytes, big-endian as the survey file and the lists of cells have them: "`from_bytes` takes all 16-byte values". Definitions only.
-use Rattle.std.specs.Prelude.{Bool, true, false, cond, List, [], ◌∷◌, ◌++◌, ℕ, ◌+◌, eqb, ltb, length}
+use Rattle.std.specs.Prelude.{Bool, true, false, cond, List, [], ◌∷◌, ◌++◌, ℕ, ◌+◌, eqb, ltb, length, Result, Ok, Err}
 use Rattle.general.specs.Refuse.{refuse_unless}
 use Rattle.refusal.specs.declared.Cell.{Cell}
 use Rattle.refusal.specs.declared.Refusal.TheVariants.{BadList}
 use Rattle.refusal.specs.declared.Refusal.{Refusal}
 use Rattle.words.specs.Word.{big, bytes_of, word}
-use Rattle.cell.specs.declared.CellAnswer.{CellAnswer}
-use Rattle.cell.specs.declared.CellAnswer.TheVariants.{Is, Refused}
 
 -- how many bytes a cell has
 abbrev pub cell_width : ℕ
@@ -21,9 +19,9 @@ unfoldable pub cell_bytes : Cell → List ℕ
 cell_bytes c = bytes_of big 8 c.high ++ bytes_of big 8 c.low
 
 -- refused where "a single cell's [length] is not 16"
-unfoldable pub from_bytes_of : List ℕ → CellAnswer
+unfoldable pub from_bytes_of : List ℕ → Result Cell Refusal
 unfolding cell_at
-from_bytes_of l = refuse_unless (eqb (length l) cell_width) (Refused BadList) (Is (cell_at l 0))
+from_bytes_of l = refuse_unless (eqb (length l) cell_width) (Err BadList) (Ok (cell_at l 0))
 
 -- the lexicographic order: the first bytes that differ decide, and a list's beginnings come before it
 unfoldable pub bytes_less : List ℕ → List ℕ → Bool
@@ -32,9 +30,9 @@ bytes_less [] (b ∷ m) = true
 bytes_less (a ∷ l) (b ∷ m) = cond (eqb a b) (bytes_less l m) (ltb a b)
 
 -- what is said of the cell, or of the refusal of its bytes
-abbrev pub by_cell : {A : Type 0} → (Refusal → A) → (Cell → A) → CellAnswer → A
-by_cell f g (Refused r) = f r
-by_cell f g (Is c) = g c
+abbrev pub by_cell : {A : Type 0} → (Refusal → A) → (Cell → A) → Result Cell Refusal → A
+by_cell f g (Err r) = f r
+by_cell f g (Ok c) = g c
 
 -- what is said of the cell that these bytes are, or of their refusal
 abbrev pub on_cell : {A : Type 0} → (Refusal → A) → (Cell → A) → List ℕ → A

@@ -1,32 +1,28 @@
 -- What theorems say of cells: two words, fields that read back, children, the order, plain cells at lattice points, and `cell_between` with document 01's tests one by one.
 -- Definitions only.
-use Rattle.std.specs.Prelude.{Bool, cond, true, false, ◌≡◌, ℕ, ◌%◌, ◌^◌, ◌<◌, eqb, leb}
+use Rattle.lattice.specs.declared.Parity.{Parity}
+use Rattle.refusal.specs.declared.Refusal.{Refusal}
+use Rattle.std.specs.Prelude.{Bool, cond, true, false, ◌≡◌, ℕ, ◌%◌, ◌^◌, ◌<◌, eqb, leb, Result, Ok, Err}
 use Rattle.refusal.specs.declared.Cell.{Cell}
 use Rattle.refusal.specs.declared.Refusal.TheVariants.{CoordOverflow}
 use Rattle.refusal.specs.declared.Coord.{Coord}
-use Rattle.lattice.specs.declared.ParityAnswer.{ParityAnswer}
-use Rattle.lattice.specs.declared.ParityAnswer.TheVariants as parity
 use Rattle.lattice.specs.Lattice.{parity_of, manhattan, is_lattice_point, has_child_room, most_number}
 use Rattle.distance.specs.Distance.{differences_fit}
-use Rattle.cell.specs.declared.Between.{Between}
-use Rattle.cell.specs.declared.Between.TheVariants as between
 use Rattle.cell.specs.Cell.{resolution_of, coord_of, alike, frame_of, exponent_of, flags_of, reserved_of, less_cell, is_plain}
-use Rattle.cell.specs.declared.CellAnswer.{CellAnswer}
-use Rattle.cell.specs.declared.CellAnswer.TheVariants.{Is}
 
 -- the tests after the resolutions, in document 01's order: the parities, whether they are one, then each difference, then the sum
-abbrev pub both_between_by : ParityAnswer → ParityAnswer → Bool → ℕ → Between
-both_between_by (parity.Refused r) q fits n = between.Refused r
-both_between_by (parity.Is p) (parity.Refused r) fits n = between.Refused r
-both_between_by (parity.Is p) (parity.Is q) fits n =
-    cond (alike p q) (cond fits (cond (leb n most_number) between.Nothing (between.Refused CoordOverflow)) (between.Refused CoordOverflow)) between.Nothing
+abbrev pub both_between_by : Result Parity Refusal → Result Parity Refusal → Bool → ℕ → Result (Unit {0}) Refusal
+both_between_by (Err r) q fits n = Err r
+both_between_by (Ok p) (Err r) fits n = Err r
+both_between_by (Ok p) (Ok q) fits n =
+    cond (alike p q) (cond fits (cond (leb n most_number) (Ok tt) (Err CoordOverflow)) (Err CoordOverflow)) (Ok tt)
 
 -- what `cell_between` answers by document 01's tests, the resolutions first
-abbrev pub both_between : Cell → Cell → Between
+abbrev pub both_between : Cell → Cell → Result (Unit {0}) Refusal
 both_between a b =
     cond (eqb (resolution_of a) (resolution_of b))
     (both_between_by (parity_of (coord_of a)) (parity_of (coord_of b)) (differences_fit (coord_of b) (coord_of a)) (manhattan (coord_of b) (coord_of a)))
-    between.Nothing
+    (Ok tt)
 
 -- a cell as the code holds it: two words of 64 bits; other crates' theorems about cells begin with it
 pub record Words (c : Cell) : Type 0 where
@@ -64,7 +60,7 @@ pub record PlainPoint (frame resolution : ℕ) (k : Cell) : Type 0 where
   pub point : is_lattice_point (coord_of k) ≡ true
 
 -- an answer that is a plain cell of this frame and resolution at a lattice point
-pub record Found (frame resolution : ℕ) (a : CellAnswer) : Type 0 where
+pub record Found (frame resolution : ℕ) (a : Result Cell Refusal) : Type 0 where
   pub cell : Cell
-  pub answered : a ≡ Is cell
+  pub answered : a ≡ Ok cell
   pub found : PlainPoint frame resolution cell

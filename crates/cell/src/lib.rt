@@ -6,53 +6,16 @@ ghost use Rattle.lattice.specs.Lattice.{at};
 ghost use Rattle.cell.specs.Bytes.{cell_at, cell_bytes, from_bytes_of, cell_width};
 ghost use Rattle.cell.specs.Inner.Bytes.{cell_stored};
 ghost use Rattle.cell.specs.Cell.{frame_of, resolution_of, exponent_of, flags_of, reserved_of, x_of, y_of, z_of, coord_of, packed, new_of};
-ghost use Rattle.cell.specs.Cell.{lattice_coord_of, is_plain, same_cell, less_cell, order_of, plain_at, no_neighbors, neighbors_of, no_children};
-ghost use Rattle.cell.specs.Cell.{children_of, parent_of, ancestor_of, alike, between_of, manhattan_cells, distance_cells};
+ghost use Rattle.cell.specs.Cell.{lattice_coord_of, is_plain, same_cell, less_cell, order_of, plain_at, neighbors_of};
+ghost use Rattle.cell.specs.Cell.{children_of, parent_of, ancestor_of, between_of, manhattan_cells, distance_cells};
 
 pub mod twos;
 
-use distance::DistanceAnswer;
-use lattice::{CoordAnswer, NumberAnswer, Parity, ParityAnswer};
-use refusal::{Cell, Coord, Outcome, Refusal};
+use refusal::{Cell, Coord, Refusal};
+use std::cmp::Ordering;
 
 // The bytes of a cell.
 pub const CELL_WIDTH: usize = 16;
-
-// A cell, or why there is none.
-#[derive(Clone, Copy)]
-pub enum CellAnswer {
-    Is(Cell),
-    Refused(Refusal),
-}
-
-// How the first of two cells stands to the second, over all 128 bits.
-#[derive(Clone, Copy)]
-pub enum Order {
-    Below,
-    Same,
-    Above,
-}
-
-// What lies between two cells: never a cell.
-#[derive(Clone, Copy)]
-pub enum Between {
-    Nothing,
-    Refused(Refusal),
-}
-
-// The 14 neighbours in the table's order; all zero where they are refused.
-#[derive(Clone, Copy)]
-pub struct Neighbors {
-    pub outcome: Outcome,
-    pub cells: [Cell; 14],
-}
-
-// The 8 children in the table's order; all zero where they are refused.
-#[derive(Clone, Copy)]
-pub struct Children {
-    pub outcome: Outcome,
-    pub cells: [Cell; 8],
-}
 
 // The coordinate reference system.
 pub fn frame(c: Cell) -> u8
@@ -141,276 +104,169 @@ fn plain(frame: u8, resolution: u8, c: Coord) -> Cell
     packed(frame, resolution, c, 0, 0)
 }
 
-fn new_at(frame: u8, resolution: u8, c: Coord, exponent: u8, flags: u8) -> CellAnswer
+#[tactic(auto, unfolding(crate::specs::Cell::new_of))]
+fn new_at(frame: u8, resolution: u8, c: Coord, exponent: u8, flags: u8) -> Result<Cell, Refusal>
     ensures { result ≡ new_of frame resolution c exponent flags }
 {
-    let p = lattice::parity_of(c);
-    match p {
-        ParityAnswer::Is(_) => CellAnswer::Is(packed(frame, resolution, c, exponent, flags)),
-        ParityAnswer::Refused(r) => CellAnswer::Refused(r),
-    }
+    lattice::parity_of(c)?; // before a cell is made
+    Ok(packed(frame, resolution, c, exponent, flags))
 }
 
 // The cell of these fields, refused where the place is no lattice point.
-pub fn new(frame: u8, resolution: u8, x: i32, y: i32, z: i32, exponent: u8, flags: u8) -> CellAnswer
+pub fn new(
+    frame: u8,
+    resolution: u8,
+    x: i32,
+    y: i32,
+    z: i32,
+    exponent: u8,
+    flags: u8,
+) -> Result<Cell, Refusal>
     ensures { result ≡ new_of frame resolution (at x y z) exponent flags }
 {
     new_at(frame, resolution, Coord { x, y, z }, exponent, flags)
 }
 
 // The plain cell at three coordinates, refused where they are no lattice point.
-pub fn from_coords(frame: u8, resolution: u8, x: i32, y: i32, z: i32) -> CellAnswer
+pub fn from_coords(frame: u8, resolution: u8, x: i32, y: i32, z: i32) -> Result<Cell, Refusal>
     ensures { result ≡ new_of frame resolution (at x y z) 0 0 }
 {
     new(frame, resolution, x, y, z, 0, 0)
 }
 
 // The plain cell at a place, refused where it is no lattice point.
-pub fn from_lattice_coord(frame: u8, resolution: u8, c: Coord) -> CellAnswer
+pub fn from_lattice_coord(frame: u8, resolution: u8, c: Coord) -> Result<Cell, Refusal>
     ensures { result ≡ new_of frame resolution c 0 0 }
 {
     new_at(frame, resolution, c, 0, 0)
 }
 
 // The place that a cell names, refused where it is no lattice point.
-pub fn lattice_coord(c: Cell) -> CoordAnswer
+#[tactic(auto, unfolding(crate::specs::Cell::lattice_coord_of))]
+pub fn lattice_coord(c: Cell) -> Result<Coord, Refusal>
     ensures { result ≡ lattice_coord_of c }
 {
     let place = coord(c);
-    let p = lattice::parity_of(place);
-    match p {
-        ParityAnswer::Is(_) => CoordAnswer::At(place),
-        ParityAnswer::Refused(r) => CoordAnswer::Refused(r),
-    }
+    lattice::parity_of(place)?; // before it is handed out
+    Ok(place)
 }
 
 // Exponent, flags and reserved are zero.
+#[tactic(auto, unfolding(crate::specs::Cell::is_plain))]
 pub fn is_plain(c: Cell) -> bool
     ensures { result ≡ is_plain c }
 {
-    if exponent(c) == 0 {
-        if flags(c) == 0 {
-            return reserved(c) == 0;
-        }
-    }
-    false
+    exponent(c) == 0 && flags(c) == 0 && reserved(c) == 0
 }
 
 // Equal in all 128 bits.
 pub fn same(a: Cell, b: Cell) -> bool
     ensures { result ≡ same_cell a b }
 {
-    if a.high == b.high {
-        return a.low == b.low;
-    }
-    false
+    a == b
 }
 
 // Below in the order of the 128 bits as one number.
 pub fn less(a: Cell, b: Cell) -> bool
     ensures { result ≡ less_cell a b }
 {
-    if a.high == b.high {
-        return a.low < b.low;
-    }
-    a.high < b.high
+    a < b
 }
 
 // The order of the 128 bits as one number.
-pub fn compare(a: Cell, b: Cell) -> Order
+pub fn compare(a: Cell, b: Cell) -> Ordering
     ensures { result ≡ order_of a b }
 {
-    if less(a, b) {
-        return Order::Below;
-    }
-    if same(a, b) {
-        return Order::Same;
-    }
-    Order::Above
+    a.cmp(&b)
 }
 
-const ZERO: Cell = Cell { high: 0, low: 0 };
+const NO_CELL: Cell = Cell { high: 0, low: 0 };
 
-// The plain cells at 14 places.
-fn plain14(frame: u8, resolution: u8, places: [Coord; 14]) -> [Cell; 14]
-    ensures { result ≡ map (plain_at frame resolution) places }
+// The plain cells at some places.
+fn plain_all<const N: usize>(frame: u8, resolution: u8, places: [Coord; N]) -> [Cell; N]
+    ensures { result ≡ map (plain_at frame resolution) places.entry }
 {
-    let mut cells = [ZERO; 14];
-    let mut i = 0;
-    while i < 14 {
-        cells[i] = plain(frame, resolution, places[i]);
-        i += 1;
+    let mut cells = [NO_CELL; N];
+    for (i, place) in places.iter().enumerate() {
+        cells[i] = plain(frame, resolution, *place);
     }
     cells
 }
 
-fn no_neighbors(r: Refusal) -> Neighbors
-    ensures { result ≡ no_neighbors r }
-{
-    Neighbors {
-        outcome: Outcome::Refused(r),
-        cells: [ZERO; 14],
-    }
-}
-
-// The 14 plain cells around a cell, of its frame and resolution. Parity first, then room.
-pub fn get_neighbors(c: Cell) -> Neighbors
+// The 14 plain cells around a cell, of its frame and resolution, in the table's order. Parity first, then room.
+pub fn get_neighbors(c: Cell) -> Result<[Cell; 14], Refusal>
     ensures { result ≡ neighbors_of c }
 {
-    let place = coord(c);
-    let parity = lattice::parity_of(place);
-    match parity {
-        ParityAnswer::Refused(r) => no_neighbors(r),
-        ParityAnswer::Is(_) => {
-            if lattice::has_neighbor_room(place) {
-                let cells = plain14(frame(c), resolution(c), lattice::neighbor_places(place));
-                Neighbors {
-                    outcome: Outcome::Answered,
-                    cells,
-                }
-            } else {
-                no_neighbors(Refusal::CoordOverflow)
-            }
-        }
-    }
+    let places = lattice::get_neighbors(coord(c))?;
+    Ok(plain_all(frame(c), resolution(c), places))
 }
 
-// The plain cells at 8 places.
-fn plain8(frame: u8, resolution: u8, places: [Coord; 8]) -> [Cell; 8]
-    ensures { result ≡ map (plain_at frame resolution) places }
-{
-    let mut cells = [ZERO; 8];
-    let mut i = 0;
-    while i < 8 {
-        cells[i] = plain(frame, resolution, places[i]);
-        i += 1;
-    }
-    cells
-}
-
-fn no_children(r: Refusal) -> Children
-    ensures { result ≡ no_children r }
-{
-    Children {
-        outcome: Outcome::Refused(r),
-        cells: [ZERO; 8],
-    }
-}
-
-// The 8 plain cells below a cell, one resolution finer. The finest has none; then parity, then room.
-pub fn get_children(c: Cell) -> Children
+// The 8 plain cells below a cell, one resolution finer, in the table's order. The finest has none; then parity, then room.
+pub fn get_children(c: Cell) -> Result<[Cell; 8], Refusal>
     ensures { result ≡ children_of c }
 {
     let level = resolution(c);
     if level == 255 {
-        return no_children(Refusal::NoChildren);
+        return Err(Refusal::NoChildren);
     }
-    let place = coord(c);
-    let parity = lattice::parity_of(place);
-    match parity {
-        ParityAnswer::Refused(r) => no_children(r),
-        ParityAnswer::Is(_) => {
-            if lattice::has_child_room(place) {
-                let cells = plain8(frame(c), level + 1, lattice::child_places(place));
-                Children {
-                    outcome: Outcome::Answered,
-                    cells,
-                }
-            } else {
-                no_children(Refusal::CoordOverflow)
-            }
-        }
-    }
+    let places = lattice::get_children(coord(c))?;
+    Ok(plain_all(frame(c), level + 1, places))
 }
 
 // The plain cell above a cell, one resolution coarser. The coarsest has none; then parity.
-pub fn parent(c: Cell) -> CellAnswer
+#[tactic(auto, unfolding(crate::specs::Cell::parent_of))]
+pub fn parent(c: Cell) -> Result<Cell, Refusal>
     ensures { result ≡ parent_of c }
 {
     let level = resolution(c);
     if level == 0 {
-        return CellAnswer::Refused(Refusal::NoParent);
+        return Err(Refusal::NoParent);
     }
-    let place = lattice::get_parent(coord(c));
-    match place {
-        CoordAnswer::Refused(r) => CellAnswer::Refused(r),
-        CoordAnswer::At(p) => CellAnswer::Is(plain(frame(c), level - 1, p)),
-    }
+    let place = lattice::get_parent(coord(c))?;
+    Ok(plain(frame(c), level - 1, place))
 }
 
 // The parent of the parent, until the target's resolution is reached. A finer target is refused; a cell's own gives the cell.
-pub fn ancestor(c: Cell, target: u8) -> CellAnswer
+pub fn ancestor(c: Cell, target: u8) -> Result<Cell, Refusal>
     ensures { result ≡ ancestor_of c target }
 {
-    let level = resolution(c);
-    if level < target {
-        return CellAnswer::Refused(Refusal::NoParent);
+    if resolution(c) < target {
+        return Err(Refusal::NoParent);
     }
-    if level == target {
-        return CellAnswer::Is(c);
+    let mut up = c;
+    while target < resolution(up) {
+        up = parent(up)?;
     }
-    let up = parent(c);
-    match up {
-        CellAnswer::Refused(r) => CellAnswer::Refused(r),
-        CellAnswer::Is(p) => ancestor(p, target),
-    }
-}
-
-// Two points of one parity.
-fn alike(p: Parity, q: Parity) -> bool
-    ensures { result ≡ alike p q }
-{
-    match p {
-        Parity::Even => match q {
-            Parity::Even => true,
-            Parity::Odd => false,
-        },
-        Parity::Odd => match q {
-            Parity::Even => false,
-            Parity::Odd => true,
-        },
-    }
+    Ok(up)
 }
 
 // Nothing between cells of two resolutions or two parities; else it is only asked whether they are too far apart.
-pub fn cell_between(a: Cell, b: Cell) -> Between
+#[tactic(auto, unfolding(crate::specs::Cell::between_of, lattice::specs::Lattice::manhattan_of))]
+pub fn cell_between(a: Cell, b: Cell) -> Result<(), Refusal>
     ensures { result ≡ between_of a b }
 {
     if resolution(a) != resolution(b) {
-        return Between::Nothing;
+        return Ok(());
     }
     let here = coord(a);
     let there = coord(b);
-    let first = lattice::parity_of(here);
-    let second = lattice::parity_of(there);
-    match first {
-        ParityAnswer::Refused(r) => Between::Refused(r),
-        ParityAnswer::Is(p) => match second {
-            ParityAnswer::Refused(r) => Between::Refused(r),
-            ParityAnswer::Is(q) => {
-                if alike(p, q) {
-                    let apart = lattice::manhattan_distance_to(there, here);
-                    match apart {
-                        NumberAnswer::Is(_) => Between::Nothing,
-                        NumberAnswer::Refused(r) => Between::Refused(r),
-                    }
-                } else {
-                    Between::Nothing
-                }
-            }
-        },
+    let first = lattice::parity_of(here)?;
+    let second = lattice::parity_of(there)?;
+    if first == second {
+        lattice::manhattan_distance_to(there, here)?; // nothing between, but perhaps too far apart
     }
+    Ok(())
 }
 
 // The Manhattan distance of two cells is that of their places.
-pub fn manhattan_distance_to(a: Cell, b: Cell) -> NumberAnswer
+pub fn manhattan_distance_to(a: Cell, b: Cell) -> Result<i32, Refusal>
     ensures { result ≡ manhattan_cells a b }
 {
     lattice::manhattan_distance_to(coord(a), coord(b))
 }
 
 // The Euclidean distance of two cells is that of their places.
-pub fn distance_to(a: Cell, b: Cell) -> DistanceAnswer
+pub fn distance_to(a: Cell, b: Cell) -> Result<f64, Refusal>
     ensures { result ≡ distance_cells a b }
 {
     distance::distance_to(coord(a), coord(b))
@@ -446,12 +302,13 @@ pub fn to_bytes(c: Cell) -> [u8; CELL_WIDTH]
 }
 
 // The cell of 16 bytes, whatever they are.
-pub fn from_bytes(s: &[u8]) -> CellAnswer
+#[tactic(auto, unfolding(crate::specs::Bytes::from_bytes_of))]
+pub fn from_bytes(s: &[u8]) -> Result<Cell, Refusal>
     ensures { result ≡ from_bytes_of s.now }
 {
     if s.len() == CELL_WIDTH {
-        CellAnswer::Is(read_at(s, 0))
+        Ok(read_at(s, 0))
     } else {
-        CellAnswer::Refused(Refusal::BadList)
+        Err(Refusal::BadList)
     }
 }

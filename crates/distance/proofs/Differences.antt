@@ -1,5 +1,8 @@
 -- "CoordOverflow when a difference leaves i32. Manhattan: also when the sum passes 2147483647." `manhattan_of` leaves the first test out: a difference that leaves i32 makes the sum pass
 -- 2147483647, so both tests together refuse where the second alone does.
+use Rattle.std.specs.Prelude.{Result, Ok, Err}
+use Rattle.lattice.specs.declared.Parity.{Parity}
+use Rattle.refusal.specs.declared.Refusal.{Refusal}
 use mathlib.Core.Path.{◌≡◌, refl, sym, ◌∙◌}
 use mathlib.Core.Bool.{Bool, true, false, cond, false≢true}
 use Prim.Native.Nat.{◌<◌, ◌≤◌}
@@ -9,9 +12,6 @@ use lib.IntN.{ℤ, pos, negsuc, nat_abs, ◌-ℤ◌}
 use borrow.Author.Tests.{leb-true, leb-false, le-leb}
 use Rattle.refusal.specs.declared.Coord.{Coord}
 use Rattle.refusal.specs.declared.Refusal.TheVariants.{CoordOverflow}
-use Rattle.lattice.specs.declared.ParityAnswer.{ParityAnswer}
-use Rattle.lattice.specs.declared.ParityAnswer.TheVariants as parity
-use Rattle.lattice.specs.declared.NumberAnswer.TheVariants as number
 use Rattle.lattice.specs.Lattice.{parity_of, within, manhattan, manhattan_of}
 use Rattle.lattice.proofs.Split.{manhattan_by}
 use Rattle.distance.specs.Distance.{differences_fit}
@@ -49,7 +49,7 @@ pub both-tests : (a b : Coord) → both_tests a b ≡ manhattan_of a b
 unfolding manhattan_of
 both-tests a b = by-parity (parity_of a) (parity_of b)
   where
-    by-parity : (p q : ParityAnswer) → both_by p q (differences_fit a b) (manhattan a b) ≡ manhattan_by p q (manhattan a b)
-    by-parity (parity.Refused r) q = refl
-    by-parity (parity.Is p) (parity.Refused r) = refl
-    by-parity (parity.Is p) (parity.Is q) = sum-decides a b (number.Is (pos (manhattan a b))) (number.Refused CoordOverflow)
+    by-parity : (p q : Result Parity Refusal) → both_by p q (differences_fit a b) (manhattan a b) ≡ manhattan_by p q (manhattan a b)
+    by-parity (Err r) q = refl
+    by-parity (Ok p) (Err r) = refl
+    by-parity (Ok p) (Ok q) = sum-decides a b (Ok (pos (manhattan a b))) (Err CoordOverflow)

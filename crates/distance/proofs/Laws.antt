@@ -1,4 +1,6 @@
 -- Laws of the Euclidean distance: where both ends are lattice points and the differences fit, the answer is a number.
+use Rattle.std.specs.Prelude.{Result, Ok, Err}
+use Rattle.refusal.specs.declared.Refusal.{Refusal}
 use mathlib.Core.Path.{◌≡◌, refl, sym, ap, ◌∙◌, subst}
 use mathlib.Core.Bool.{Bool, true, false, not}
 use Prim.Native.Nat.{ℕ, suc, ◌+◌, ◌*◌, ◌^◌, ◌≤◌, ◌<◌}
@@ -13,18 +15,13 @@ use mir.Syntax.{w32}
 use mir.Val.{SFits}
 use Rattle.refusal.specs.declared.Coord.{Coord}
 use Rattle.lattice.specs.declared.Parity.{Parity}
-use Rattle.lattice.specs.declared.ParityAnswer.{ParityAnswer}
-use Rattle.lattice.specs.declared.ParityAnswer.TheVariants as parity
 use Rattle.lattice.specs.Lattice.{Fitting, within, parity_of}
 use Rattle.general.proofs.Tests.{three}
 use Rattle.lattice.proofs.SignsLaws.{within-mag}
-use Rattle.root.specs.declared.Root.{Root}
-use Rattle.root.specs.declared.Root.TheVariants as root
 use Rattle.root.specs.Root.{root_of, root_whole}
 use Rattle.root.proofs.Answers.{answers}
 use Rattle.root.proofs.Number.{of_number}
-use Rattle.distance.specs.declared.DistanceAnswer.TheVariants.{Is}
-use Rattle.distance.specs.Distance.{difference_fits, differences_fit, square_apart, squared_distance, rooted, distance_of}
+use Rattle.distance.specs.Distance.{difference_fits, differences_fit, square_apart, squared_distance, distance_of}
 use Rattle.distance.proofs.Split.{distance_in, distance_by}
 use Rattle.distance.proofs.Whole.{WholeTo, rounded-whole, square-at, sum-at}
 use Rattle.distance.specs.Inner.Differences.{difference}
@@ -77,34 +74,30 @@ squared-whole a b e =
 
 -- ---- the answer
 
-module _ (a b : Coord) {p q : Parity} (first : parity_of a ≡ parity.Is p) (second : parity_of b ≡ parity.Is q) where
+module _ (a b : Coord) {p q : Parity} (first : parity_of a ≡ Ok p) (second : parity_of b ≡ Ok q) where
   -- of two lattice points: the test decides
   pub distance-tested : {t : Bool} → differences_fit a b ≡ t → distance_of a b ≡ distance_in t a b
   unfolding distance_of
   distance-tested e = (λ i. distance_by (first i) (second i) a b) ∙ ap (λ (t : Bool). distance_in t a b) e
 
   -- where the differences fit, it is the root of a whole number of at most 2 ^ 64
-  pub distance-root : (e : differences_fit a b ≡ true) → distance_of a b ≡ Is (root_whole (squared-whole a b e).number)
-  distance-root e = let w = squared-whole a b e in distance-tested e ∙ ap rooted (answers (squared_distance a b) w.number w.value w.most)
+  pub distance-root : (e : differences_fit a b ≡ true) → distance_of a b ≡ Ok (root_whole (squared-whole a b e).number)
+  distance-root e = let w = squared-whole a b e in distance-tested e ∙ answers (squared_distance a b) w.number w.value w.most
 
   -- THE LAW: the answer is a number, and the root never refuses
-  pub distance-answers : differences_fit a b ≡ true → (d : Float) × (distance_of a b ≡ Is d)
+  pub distance-answers : differences_fit a b ≡ true → (d : Float) × (distance_of a b ≡ Ok d)
   distance-answers e = (root_whole (squared-whole a b e).number, distance-root e)
 
 -- what is answered is no NaN, so that its bits can be taken
-pub distance-number : (a b : Coord) (d : Float) → distance_of a b ≡ Is d → T (not (is_nan d))
+pub distance-number : (a b : Coord) (d : Float) → distance_of a b ≡ Ok d → T (not (is_nan d))
 unfolding distance_of
 distance-number a b d = by (parity_of a) (parity_of b)
   where
-    taken : (x : Float) (r : Root) → root_of x ≡ r → rooted r ≡ Is d → T (not (is_nan d))
-    taken x (root.Of v) e h = of_number x d (let g : v ≡ d = cc in e ∙ ap root.Of g)
-    taken x (root.Refused w) e h = absurd (let z : ◌≡◌ {A = ℕ} 0 1 = cc in omega arith)
-
-    tested : (t : Bool) → distance_in t a b ≡ Is d → T (not (is_nan d))
-    tested true h = taken (squared_distance a b) (root_of (squared_distance a b)) refl h
+    tested : (t : Bool) → distance_in t a b ≡ Ok d → T (not (is_nan d))
+    tested true h = of_number (squared_distance a b) d h
     tested false h = absurd (let z : ◌≡◌ {A = ℕ} 0 1 = cc in omega arith)
 
-    by : (p q : ParityAnswer) → distance_by p q a b ≡ Is d → T (not (is_nan d))
-    by (parity.Refused r) q h = absurd (let z : ◌≡◌ {A = ℕ} 0 1 = cc in omega arith)
-    by (parity.Is p) (parity.Refused r) h = absurd (let z : ◌≡◌ {A = ℕ} 0 1 = cc in omega arith)
-    by (parity.Is p) (parity.Is q) h = tested (differences_fit a b) h
+    by : (p q : Result Parity Refusal) → distance_by p q a b ≡ Ok d → T (not (is_nan d))
+    by (Err r) q h = absurd (let z : ◌≡◌ {A = ℕ} 0 1 = cc in omega arith)
+    by (Ok p) (Err r) h = absurd (let z : ◌≡◌ {A = ℕ} 0 1 = cc in omega arith)
+    by (Ok p) (Ok q) h = tested (differences_fit a b) h

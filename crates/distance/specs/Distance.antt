@@ -1,15 +1,12 @@
 -- "Distance of two cells: parity of the first, of the second; CoordOverflow when a difference leaves i32; else squares and sums rounded in source order, then the root."
 -- The scope document's sentence, of two places of the lattice, over IEEE 754's operations. Definitions only.
-use Rattle.std.specs.Prelude.{Bool, ◌&&◌, ℤ, ◌-ℤ◌, Float}
+use Rattle.refusal.specs.declared.Refusal.{Refusal}
+use Rattle.std.specs.Prelude.{Bool, ◌&&◌, ℤ, ◌-ℤ◌, Float, Result, Ok, Err}
 use Rattle.std.specs.Float.{binary64}
 use Rattle.std.specs.Float.Ieee.{of_int, add, mul}
 use Rattle.refusal.specs.declared.Coord.{Coord}
 use Rattle.lattice.specs.Lattice.{parity_of, on_parities, fits32}
-use Rattle.root.specs.declared.Root.{Root}
-use Rattle.root.specs.declared.Root.TheVariants as root
 use Rattle.root.specs.Root.{root_of}
-use Rattle.distance.specs.declared.DistanceAnswer.{DistanceAnswer}
-use Rattle.distance.specs.declared.DistanceAnswer.TheVariants.{Is, Refused}
 use Rattle.general.specs.Refuse.{refuse_unless}
 use Rattle.refusal.specs.declared.Refusal.TheVariants.{CoordOverflow}
 
@@ -31,13 +28,9 @@ unfoldable pub squared_distance : Coord → Coord → Float
 unfolding square_apart add
 squared_distance a b = add binary64 (add binary64 (square_apart a.x b.x) (square_apart a.y b.y)) (square_apart a.z b.z)
 
--- the root's answer, which is never a refusal here: `distance-answers` of proofs/Theorems.antt
-abbrev pub rooted : Root → DistanceAnswer
-rooted (root.Of d) = Is d
-rooted (root.Refused r) = Refused r
-
--- the distance of two places: "parity of the first, of the second; CoordOverflow when a difference leaves i32; else" the root of the squares' sum
-unfoldable pub distance_of : Coord → Coord → DistanceAnswer
+-- the distance of two places: "parity of the first, of the second; CoordOverflow when a difference leaves i32; else" the root of the squares' sum,
+-- which is never a refusal here: `distance-answers` of proofs/Theorems.antt
+unfoldable pub distance_of : Coord → Coord → Result Float Refusal
 unfolding parity_of differences_fit squared_distance root_of
 distance_of a b =
-    on_parities Refused (λ p q. refuse_unless (differences_fit a b) (Refused CoordOverflow) (rooted (root_of (squared_distance a b)))) (parity_of a) (parity_of b)
+    on_parities Err (λ p q. refuse_unless (differences_fit a b) (Err CoordOverflow) (root_of (squared_distance a b))) (parity_of a) (parity_of b)

@@ -6,16 +6,7 @@ ghost use Rattle.std.specs.Int.{w32};
 ghost use Rattle.std.proofs.Common.{SFits};
 ghost use Rattle.distance.specs.Distance.{difference_fits, differences_fit, square_apart, squared_distance, distance_of};
 
-use lattice::ParityAnswer;
 use refusal::{Coord, Refusal};
-use root::Root;
-
-// The distance, or why there is none.
-#[derive(Clone, Copy)]
-pub enum DistanceAnswer {
-    Is(f64),
-    Refused(Refusal),
-}
 
 // Whether the first less the second, on one axis, is a 32-bit number.
 fn difference_fits(a: i32, b: i32) -> bool
@@ -49,21 +40,15 @@ fn squared_distance(a: Coord, b: Coord) -> f64
 }
 
 // The distance, or refused: the first that is no lattice point, then a difference that leaves the 32-bit numbers.
-pub fn distance_to(a: Coord, b: Coord) -> DistanceAnswer
+#[tactic(auto, unfolding(crate::specs::Distance::distance_of))]
+pub fn distance_to(a: Coord, b: Coord) -> Result<f64, Refusal>
     ensures { result ≡ distance_of a b }
 {
-    if let ParityAnswer::Refused(r) = lattice::parity_of(a) {
-        return DistanceAnswer::Refused(r);
-    }
-    if let ParityAnswer::Refused(r) = lattice::parity_of(b) {
-        return DistanceAnswer::Refused(r);
-    }
+    lattice::parity_of(a)?;
+    lattice::parity_of(b)?;
     if differences_fit(a, b) {
-        match root::square_root(squared_distance(a, b)) {
-            Root::Of(d) => DistanceAnswer::Is(d),
-            Root::Refused(r) => DistanceAnswer::Refused(r),
-        }
+        root::square_root(squared_distance(a, b))
     } else {
-        DistanceAnswer::Refused(Refusal::CoordOverflow)
+        Err(Refusal::CoordOverflow)
     }
 }

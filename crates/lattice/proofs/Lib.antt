@@ -6,8 +6,6 @@ pub mod Odds
 pub mod SignsLaws
 pub mod Signs
 pub mod Room
-pub mod Answers
-pub mod Spread
 pub mod Points
 pub mod OneAnswer
 pub mod OneParent

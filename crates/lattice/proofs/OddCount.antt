@@ -1,4 +1,7 @@
 -- The parent of an even point by its axis, and by lattice.rs's count of odd halves, is the same point.
+use Rattle.std.specs.Prelude.{Result, Ok}
+use Rattle.lattice.specs.declared.Parity.{Parity}
+use Rattle.refusal.specs.declared.Refusal.{Refusal}
 use mathlib.Core.Path.{◌≡◌, refl, sym, ap, ◌∙◌}
 use mathlib.Core.Bool.{Bool, true, false}
 use Prim.Native.Nat.{ℕ, suc, ◌+◌, ◌/◌, ◌%◌}
@@ -11,9 +14,6 @@ use borrow.Fn.Kinds.{Dens, res_t, ended_of}
 use borrow.Author.Tests.{eqb-false}
 use Rattle.refusal.specs.declared.Coord.{Coord}
 use Rattle.lattice.specs.declared.Parity.TheVariants.{Even}
-use Rattle.lattice.specs.declared.ParityAnswer.{ParityAnswer}
-use Rattle.lattice.specs.declared.ParityAnswer.TheVariants as parity
-use Rattle.lattice.specs.declared.CoordAnswer.TheVariants as coord
 use Rattle.lattice.specs.Lattice.{at, is_odd, parity_of, half, halves, differing_axis, take_one_off, even_parent, parent_of}
 use Rattle.lattice.specs.Terms.{divided_by_two, as_number, by_odd_count, counted_parent}
 use Rattle.lattice.proofs.Split.{parent_by}
@@ -49,14 +49,14 @@ toward_zero (negsuc n) e =
 even-halves : (c : Coord) → Odds c false false false → divided_by_two c ≡ halves c
 even-halves c o = λ i. at (toward_zero c.x o.odd-x i) (toward_zero c.y o.odd-y i) (toward_zero c.z o.odd-z i)
 
-even-parent : (c : Coord) → parity_of c ≡ parity.Is Even → parent_of c ≡ coord.At (counted_parent (divided_by_two c))
+even-parent : (c : Coord) → parity_of c ≡ Ok Even → parent_of c ≡ Ok (counted_parent (divided_by_two c))
 unfolding parent_of
 even-parent c e =
-    ap (λ (a : ParityAnswer). parent_by a c) e
-    ∙ ap coord.At (sym (ap counted_parent (even-halves c (parity-odds c Even (parity-point c Even e) e)) ∙ count-of-odd-halves (halves c)))
+    ap (λ (a : Result Parity Refusal). parent_by a c) e
+    ∙ ap Ok (sym (ap counted_parent (even-halves c (parity-odds c Even (parity-point c Even e) e)) ∙ count-of-odd-halves (halves c)))
 
 pub told-by-odd-count :
     (κs : Lfts 0) (a : Dens κs get-parent-kinds.ps) (z : (res_t get-parent-kinds.r κs).Denot)
     (e : AtExit (ended_of 0 get-parent-kinds.ps get-parent-kinds.r) κs)
-    → get-parent.Post κs a z e → parity_of a.0 ≡ parity.Is Even → z ≡ coord.At (counted_parent (divided_by_two a.0))
+    → get-parent.Post κs a z e → parity_of a.0 ≡ Ok Even → z ≡ Ok (counted_parent (divided_by_two a.0))
 told-by-odd-count κs a z e told even = told ∙ even-parent a.0 even

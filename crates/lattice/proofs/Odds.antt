@@ -1,4 +1,5 @@
 -- The lattice's definitions over the parities of the coordinates alone: lemmas for the laws.
+use Rattle.std.specs.Prelude.{Result, Ok, Err}
 use mathlib.Core.Path.{◌≡◌, refl, sym, ap, ap₂, subst, ◌∙◌}
 use mathlib.Core.Bool.{Bool, true, false, not, cond, ◌&&◌, beq, false≢true}
 use mathlib.Core.List.{Memᴰ}
@@ -13,9 +14,6 @@ use Rattle.refusal.specs.declared.Refusal.{Refusal}
 use Rattle.refusal.specs.declared.Refusal.TheVariants.{InvalidParity}
 use Rattle.lattice.specs.declared.Parity.{Parity}
 use Rattle.lattice.specs.declared.Parity.TheVariants.{Even, Odd}
-use Rattle.lattice.specs.declared.ParityAnswer.{ParityAnswer}
-use Rattle.lattice.specs.declared.ParityAnswer.TheVariants as parity
-use Rattle.lattice.specs.declared.CoordAnswer.TheVariants as coord
 use Rattle.lattice.specs.Lattice.{at, origin, is_odd, is_lattice_point, parity_of, moved, neighbor_steps, doubled, child_steps, half, raised, alone, differing_axis, take_one_off, halves, parent_of, apart, manhattan}
 use Rattle.lattice.proofs.Split.{parent_by}
 use Rattle.lattice.proofs.SignsLaws.{either, either-false, agree-turned, odd-sum, odd-double, half-double, apart-even, odd-halfway}
@@ -64,26 +62,26 @@ abbrev pub oddness : Parity → Bool
 oddness Even = false
 oddness Odd = true
 
-abbrev pub answer : Bool → Bool → Coord → ParityAnswer
-answer t a c = cond t (parity.Is (cond a Odd Even)) (parity.Refused (InvalidParity c))
+abbrev pub answer : Bool → Bool → Coord → Result Parity Refusal
+answer t a c = cond t (Ok (cond a Odd Even)) (Err (InvalidParity c))
 
-pub answered : (t a : Bool) (c : Coord) (p : Parity) → answer t a c ≡ parity.Is p → t ≡ true
+pub answered : (t a : Bool) (c : Coord) (p : Parity) → answer t a c ≡ Ok p → t ≡ true
 answered true a c p e = refl
 answered false a c p e = cc
 
-named : (a : Bool) (p : Parity) → parity.Is (cond a Odd Even) ≡ parity.Is p → a ≡ oddness p
+named : (a : Bool) (p : Parity) → ◌≡◌ {A = Result Parity Refusal} (Ok (cond a Odd Even)) (Ok p) → a ≡ oddness p
 named true Even e = cc
 named true Odd e = refl
 named false Even e = refl
 named false Odd e = cc
 
-pub parity-odds : (c : Coord) (p : Parity) → is_lattice_point c ≡ true → parity_of c ≡ parity.Is p → Odds c (oddness p) (oddness p) (oddness p)
+pub parity-odds : (c : Coord) (p : Parity) → is_lattice_point c ≡ true → parity_of c ≡ Ok p → Odds c (oddness p) (oddness p) (oddness p)
 unfolding parity_of
 parity-odds c p point e =
     let a = is_odd c.x in
     subst (λ (t : Bool). Odds c t t t) (named a p (sym (ap (λ (t : Bool). answer t a c) point) ∙ e)) (point-odds c point)
 
-odds-parity : (c : Coord) (p : Parity) → Odds c (oddness p) (oddness p) (oddness p) → parity_of c ≡ parity.Is p
+odds-parity : (c : Coord) (p : Parity) → Odds c (oddness p) (oddness p) (oddness p) → parity_of c ≡ Ok p
 unfolding parity_of is_lattice_point
 odds-parity c Even o = λ i. answer (one-parity (o.odd-x i) (o.odd-y i) (o.odd-z i)) (o.odd-x i) c
 odds-parity c Odd o = λ i. answer (one-parity (o.odd-x i) (o.odd-y i) (o.odd-z i)) (o.odd-x i) c
@@ -170,8 +168,8 @@ even-by-coordinates false true false q = refl
 even-by-coordinates false false true q = refl
 even-by-coordinates false false false q = refl
 
-pub parent-at : (p : Parity) (c : Coord) → parent_by (parity.Is p) c ≡ coord.At (parent-of-halves p (halves c))
-parent-at Even c = ap coord.At (even-by-coordinates (is_odd (half c.x)) (is_odd (half c.y)) (is_odd (half c.z)) (halves c))
+pub parent-at : (p : Parity) (c : Coord) → parent_by (Ok p) c ≡ Ok (parent-of-halves p (halves c))
+parent-at Even c = ap Ok (even-by-coordinates (is_odd (half c.x)) (is_odd (half c.y)) (is_odd (half c.z)) (halves c))
 parent-at Odd c = refl
 
 parent-by-odds : (p : Parity) (a b d : Bool) (q : Coord) → Odds q a b d → parent-of-halves p q ≡ parent-from p a b d q
@@ -184,18 +182,18 @@ turned Even t a b d q =
     at (lowered (not (agree-turned t a b i) && agree-turned t b d i) q.x) (lowered (not (agree-turned t b a i) && agree-turned t a d i) q.y) (lowered (not (agree-turned t d a i) && agree-turned t a b i) q.z)
 turned Odd t a b d q = λ i. at q.x (raised (not (agree-turned t a b i)) q.y) (raised (not (agree-turned t a d i)) q.z)
 
-refused-at : (r : Refusal) (q : Coord) → coord.Refused r ≡ coord.At q → ⊥
+refused-at : (r : Refusal) (q : Coord) → ◌≡◌ {A = Result Coord Refusal} (Err r) (Ok q) → ⊥
 refused-at r q e = let z : ◌≡◌ {A = ℕ} 0 1 = cc in omega arith
 
-pub at_path : (p q : Coord) → coord.At p ≡ coord.At q → p ≡ q
+pub at_path : (p q : Coord) → ◌≡◌ {A = Result Coord Refusal} (Ok p) (Ok q) → p ≡ q
 at_path p q e = cc
 
-parent-cases-by : (P : Coord → Type 0) (c q : Coord) (a : ParityAnswer) → ((p : Parity) → P (parent-of-halves p (halves c))) → parent_by a c ≡ coord.At q → P q
-parent-cases-by P c q (parity.Refused r) f e = absurd (refused-at r q e)
-parent-cases-by P c q (parity.Is p) f e = subst P (at_path (parent-of-halves p (halves c)) q (sym (parent-at p c) ∙ e)) (f p)
+parent-cases-by : (P : Coord → Type 0) (c q : Coord) (a : Result Parity Refusal) → ((p : Parity) → P (parent-of-halves p (halves c))) → parent_by a c ≡ Ok q → P q
+parent-cases-by P c q (Err r) f e = absurd (refused-at r q e)
+parent-cases-by P c q (Ok p) f e = subst P (at_path (parent-of-halves p (halves c)) q (sym (parent-at p c) ∙ e)) (f p)
 
 -- what holds of the parent by either parity holds of the parent
-pub parent-cases : (P : Coord → Type 0) (c q : Coord) → ((p : Parity) → P (parent-of-halves p (halves c))) → parent_of c ≡ coord.At q → P q
+pub parent-cases : (P : Coord → Type 0) (c q : Coord) → ((p : Parity) → P (parent-of-halves p (halves c))) → parent_of c ≡ Ok q → P q
 unfolding parent_of
 parent-cases P c q f e = parent-cases-by P c q (parity_of c) f e
 
@@ -205,18 +203,18 @@ child-halves : (c s : Coord) → halves (moved (doubled c) s) ≡ moved c (halve
 child-halves c s = λ i. at (half-double c.x s.x i) (half-double c.y s.y i) (half-double c.z s.z i)
 
 -- the point moved by half the step, and mended as the halves of the step alone say
-parent-of-child : (c s : Coord) (t : Bool) (p : Parity) → Odds c t t t → Odds s (oddness p) (oddness p) (oddness p) → parent_of (moved (doubled c) s) ≡ coord.At (parent-from p (is_odd (half s.x)) (is_odd (half s.y)) (is_odd (half s.z)) (moved c (halves s)))
+parent-of-child : (c s : Coord) (t : Bool) (p : Parity) → Odds c t t t → Odds s (oddness p) (oddness p) (oddness p) → parent_of (moved (doubled c) s) ≡ Ok (parent-from p (is_odd (half s.x)) (is_odd (half s.y)) (is_odd (half s.z)) (moved c (halves s)))
 unfolding parent_of
 parent-of-child c s t p o e =
     let d = moved (doubled c) s in
     let h = halves s in
-    ap (λ (a : ParityAnswer). parent_by a d) (odds-parity d p (child-odds c s e))
+    ap (λ (a : Result Parity Refusal). parent_by a d) (odds-parity d p (child-odds c s e))
     ∙ parent-at p d
-    ∙ ap (λ (q : Coord). coord.At (parent-of-halves p q)) (child-halves c s)
-    ∙ ap coord.At (parent-by-odds p _ _ _ (moved c h) (moved-odds c h o (own h)) ∙ turned p t (is_odd h.x) (is_odd h.y) (is_odd h.z) (moved c h))
+    ∙ ap (λ (q : Coord). Ok (parent-of-halves p q)) (child-halves c s)
+    ∙ ap Ok (parent-by-odds p _ _ _ (moved c h) (moved-odds c h o (own h)) ∙ turned p t (is_odd h.x) (is_odd h.y) (is_odd h.z) (moved c h))
 
-home : {x y z x' y' z' : ℤ} → x ≡ x' → y ≡ y' → z ≡ z' → coord.At (at x y z) ≡ coord.At (at x' y' z')
-home e f g = λ i. coord.At (at (e i) (f i) (g i))
+home : {x y z x' y' z' : ℤ} → x ≡ x' → y ≡ y' → z ≡ z' → ◌≡◌ {A = Result Coord Refusal} (Ok (at x y z)) (Ok (at x' y' z'))
+home e f g = λ i. Ok (at (e i) (f i) (g i))
 
 all : (t : Bool) {x y z : ℤ} → is_odd x ≡ t → is_odd y ≡ t → is_odd z ≡ t → Odds (at x y z) t t t
 all t e f g = record { odd-x = e; odd-y = f; odd-z = g }
@@ -231,7 +229,7 @@ up : (z : ℤ) → z +ℤ negsuc 0 +ℤ pos 1 ≡ z
 up z = -ℤ-+ℤ_cancel z (pos 1)
 
 -- each entry of the table of children leads back to the point
-pub child-home : (c : Coord) (t : Bool) → Odds c t t t → Each (λ (s : Coord). parent_of (moved (doubled c) s) ≡ coord.At c) child_steps
+pub child-home : (c : Coord) (t : Bool) → Odds c t t t → Each (λ (s : Coord). parent_of (moved (doubled c) s) ≡ Ok c) child_steps
 unfolding child_steps
 child-home c t o = (
   parent-of-child c _ t Even o (all false refl refl refl) ∙ home (kept c.x) (kept c.y) (kept c.z),

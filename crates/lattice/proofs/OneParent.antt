@@ -1,5 +1,7 @@
 -- Every lattice point is one of the eight child places of its parent, and so has exactly one: the way back from `child-parent`. A point is twice its halves, and the parent's mending of a half is
 -- made good by the step that leads down from it.
+use Rattle.std.specs.Prelude.{List, Result, Ok, Err}
+use Rattle.refusal.specs.declared.Refusal.{Refusal}
 use mathlib.Core.Path.{◌≡◌, refl, sym, ap, subst, ◌∙◌}
 use mathlib.Core.Bool.{Bool, true, false, not, cond, beq}
 use mathlib.Core.List.Memᴰ
@@ -14,13 +16,8 @@ use denote.Triple.Clauses.{AtExit}
 use borrow.Fn.Kinds.{Dens, res_t, ended_of}
 use borrow.Author.Tests.{eqb-true, eqb-false}
 use Rattle.refusal.specs.declared.Coord.{Coord}
-use Rattle.refusal.specs.declared.Outcome.TheVariants.{Answered}
 use Rattle.lattice.specs.declared.Parity.{Parity}
 use Rattle.lattice.specs.declared.Parity.TheVariants.{Even, Odd}
-use Rattle.lattice.specs.declared.ParityAnswer.{ParityAnswer}
-use Rattle.lattice.specs.declared.ParityAnswer.TheVariants as parity
-use Rattle.lattice.specs.declared.CoordAnswer.TheVariants as coord
-use Rattle.lattice.specs.declared.Children.{Children}
 use Rattle.lattice.specs.Lattice.{at, origin, is_odd, is_lattice_point, parity_of, moved, doubled, child_steps, child_places, has_child_room, children_of, half, halves, raised, alone, parent_of}
 use Rattle.lattice.proofs.Split.{children_in, children_by, parent_by}
 use Rattle.lattice.proofs.SignsLaws.{sub_cases}
@@ -117,55 +114,55 @@ step-leads Odd c o =
 
 -- ---- the parent
 
-child-by : (p : Parity) (c : Coord) → parity_of c ≡ parity.Is p → Memᴰ c (child_places (parent-of-halves p (halves c)))
+child-by : (p : Parity) (c : Coord) → parity_of c ≡ Ok p → Memᴰ c (child_places (parent-of-halves p (halves c)))
 unfolding child_places
 child-by p c e =
     let listed = step-listed p (is_odd (half c.x)) (is_odd (half c.y)) (is_odd (half c.z)) in
     Memᴰ.cast (step-leads p c (parity-odds c p (parity-point c p e) e)) (Memᴰ.map (moved (doubled (parent-of-halves p (halves c)))) listed)
 
 -- every point that has a parent is one of the eight child places of that parent
-pub parent-child : (c p : Coord) → parent_of c ≡ coord.At p → Memᴰ c (child_places p)
+pub parent-child : (c p : Coord) → parent_of c ≡ Ok p → Memᴰ c (child_places p)
 unfolding parent_of
 parent-child c p e = by-parity (parity_of c) refl e
   where
-    known : {q : Coord} → Memᴰ c (child_places q) → coord.At q ≡ coord.At p → Memᴰ c (child_places p)
+    known : {q : Coord} → Memᴰ c (child_places q) → ◌≡◌ {A = Result Coord Refusal} (Ok q) (Ok p) → Memᴰ c (child_places p)
     known {q} m f = subst (λ (q : Coord). Memᴰ c (child_places q)) (at_path q p f) m
 
-    by-parity : (a : ParityAnswer) → parity_of c ≡ a → parent_by a c ≡ coord.At p → Memᴰ c (child_places p)
-    by-parity (parity.Refused r) q f = absurd (let z : ◌≡◌ {A = ℕ} 0 1 = cc in omega arith)
-    by-parity (parity.Is t) q f = known (child-by t c q) (sym (parent-at t c) ∙ f)
+    by-parity : (a : Result Parity Refusal) → parity_of c ≡ a → parent_by a c ≡ Ok p → Memᴰ c (child_places p)
+    by-parity (Err r) q f = absurd (let z : ◌≡◌ {A = ℕ} 0 1 = cc in omega arith)
+    by-parity (Ok t) q f = known (child-by t c q) (sym (parent-at t c) ∙ f)
 
 -- every lattice point has exactly one parent: the one that `parent_of` tells
 pub one_parent : (c : Coord) → is_lattice_point c ≡ true → (p : Coord) × OnlyParent c p
 unfolding parent_of
 one_parent c e = go (is_odd c.x) (point-parity c e)
   where
-    from : (p : Coord) → parent_of c ≡ coord.At p → (p : Coord) × OnlyParent c p
+    from : (p : Coord) → parent_of c ≡ Ok p → (p : Coord) × OnlyParent c p
     from p f = (p, record { told = f; point = parent-is-point c p f; child = parent-child c p f; only = λ q g m. at_path q p (sym (child-parent q c g m) ∙ f) })
 
-    go : (t : Bool) → parity_of c ≡ parity.Is (cond t Odd Even) → (p : Coord) × OnlyParent c p
-    go true f = from (parent-of-halves Odd (halves c)) (ap (λ (a : ParityAnswer). parent_by a c) f ∙ parent-at Odd c)
-    go false f = from (parent-of-halves Even (halves c)) (ap (λ (a : ParityAnswer). parent_by a c) f ∙ parent-at Even c)
+    go : (t : Bool) → parity_of c ≡ Ok (cond t Odd Even) → (p : Coord) × OnlyParent c p
+    go true f = from (parent-of-halves Odd (halves c)) (ap (λ (a : Result Parity Refusal). parent_by a c) f ∙ parent-at Odd c)
+    go false f = from (parent-of-halves Even (halves c)) (ap (λ (a : Result Parity Refusal). parent_by a c) f ∙ parent-at Even c)
 
 -- ---- the calls
 
 -- what `get_children` answers are the child places
-children-places : (p : Coord) → (children_of p).outcome ≡ Answered → (children_of p).coords ≡ child_places p
+children-places : (p : Coord) (l : List Coord) → children_of p ≡ Ok l → l ≡ child_places p
 unfolding children_of
-children-places p e = by-parity (parity_of p) e
+children-places p l e = by-parity (parity_of p) e
   where
-    by-room : (t : Bool) → (children_in t p).outcome ≡ Answered → (children_in t p).coords ≡ child_places p
-    by-room true f = refl
-    by-room false f = absurd (let z : ◌≡◌ {A = ℕ} 0 1 = cc in omega arith)
+    by-room : (t : Bool) → children_in t p ≡ Ok l → l ≡ child_places p
+    by-room true f = cc
+    by-room false f = cc
 
-    by-parity : (a : ParityAnswer) → (children_by a p).outcome ≡ Answered → (children_by a p).coords ≡ child_places p
-    by-parity (parity.Refused r) f = absurd (let z : ◌≡◌ {A = ℕ} 0 1 = cc in omega arith)
-    by-parity (parity.Is q) f = by-room (has_child_room p) f
+    by-parity : (a : Result Parity Refusal) → children_by a p ≡ Ok l → l ≡ child_places p
+    by-parity (Err r) f = cc
+    by-parity (Ok q) f = by-room (has_child_room p) f
 
 -- where `get_parent` tells a place and `get_children` answers for that place, the point is one of the eight: over the two calls' own contracts
 pub told-among-children : (κs : Lfts 0) (a : Dens κs get-parent-kinds.ps) (z : (res_t get-parent-kinds.r κs).Denot) (e : AtExit (ended_of 0 get-parent-kinds.ps get-parent-kinds.r) κs)
-    (b : Dens κs get-children-kinds.ps) (y : (res_t get-children-kinds.r κs).Denot) (f : AtExit (ended_of 0 get-children-kinds.ps get-children-kinds.r) κs)
-    → get-parent.Post κs a z e → get-children.Post κs b y f → z ≡ coord.At b.0 → y.outcome ≡ Answered → Memᴰ a.0 y.coords
-told-among-children κs a z e b y f told listed is-parent answered =
-    let places = ap (λ (l : Children). l.coords) listed ∙ children-places b.0 (sym (ap (λ (l : Children). l.outcome) listed) ∙ answered) in
-    subst (Memᴰ a.0) (sym places) (parent-child a.0 b.0 (sym told ∙ is-parent))
+    (b : Dens κs get-children-kinds.ps) (y : (res_t get-children-kinds.r κs).Denot) (f : AtExit (ended_of 0 get-children-kinds.ps get-children-kinds.r) κs) (l : List Coord)
+    → get-parent.Post κs a z e → get-children.Post κs b y f → z ≡ Ok b.0 → y ≡ Ok l → Memᴰ a.0 l
+told-among-children κs a z e b y f l told listed is-parent answered =
+    let places = children-places b.0 l (sym listed ∙ answered) in
+    subst (λ (l : List Coord). Memᴰ a.0 l) (sym places) (parent-child a.0 b.0 (sym told ∙ is-parent))

@@ -1,6 +1,6 @@
 -- "Cell and lattice" of the scope document, as far as it speaks of coordinates, with the tables and the parent of lattice.rs. A coordinate is an integer; that
 -- every sum here fits 32 bits is what the ranges say. Each call that takes a point begins with its parity, as LatticeCoord::new does. Definitions only.
-use Rattle.std.specs.Prelude.{Bool, not, cond, ◌&&◌, List, [], ◌∷◌, map, ℕ, ◌+◌, ◌%◌, eqb, leb, ℤ, pos, negsuc, nat_abs, ◌+ℤ◌, ◌-ℤ◌, replicate}
+use Rattle.std.specs.Prelude.{Bool, not, cond, ◌&&◌, List, [], ◌∷◌, map, ℕ, ◌+◌, ◌%◌, eqb, leb, ℤ, pos, negsuc, nat_abs, ◌+ℤ◌, ◌-ℤ◌, Result, Ok, Err}
 use Rattle.std.specs.Bool.{beq}
 use Rattle.std.specs.Int.Signed.{le_z, shr_z}
 use Rattle.std.specs.Int.{w32}
@@ -8,20 +8,11 @@ use Rattle.std.proofs.Common.{SFits}
 use Rattle.refusal.specs.declared.Coord.{Coord}
 use Rattle.refusal.specs.declared.Refusal.{Refusal}
 use Rattle.refusal.specs.declared.Refusal.TheVariants.{InvalidParity, CoordOverflow}
-use Rattle.refusal.specs.declared.Outcome.TheVariants as outcome
 use Rattle.lattice.specs.declared.Parity.{Parity}
 use Rattle.lattice.specs.declared.Parity.TheVariants.{Even, Odd}
 use Rattle.lattice.specs.declared.Axis.{Axis}
 use Rattle.lattice.specs.declared.Axis.TheVariants.{X, Y, Z, Neither}
-use Rattle.lattice.specs.declared.ParityAnswer.{ParityAnswer}
-use Rattle.lattice.specs.declared.ParityAnswer.TheVariants as parity
-use Rattle.lattice.specs.declared.CoordAnswer.{CoordAnswer}
-use Rattle.lattice.specs.declared.NumberAnswer.{NumberAnswer}
-use Rattle.lattice.specs.declared.Neighbors.{Neighbors}
-use Rattle.lattice.specs.declared.Children.{Children}
 use Rattle.general.specs.Refuse.{refuse_unless}
-use Rattle.lattice.specs.declared.CoordAnswer.TheVariants as coord
-use Rattle.lattice.specs.declared.NumberAnswer.TheVariants as number
 
 -- the place with these coordinates
 abbrev pub at : ℤ → ℤ → ℤ → Coord
@@ -48,17 +39,17 @@ unfoldable pub is_lattice_point : Coord → Bool
 is_lattice_point c = beq (is_odd c.x) (is_odd c.y) && beq (is_odd c.y) (is_odd c.z)
 
 -- their parity, or refusal 1 with the coordinates
-unfoldable pub parity_of : Coord → ParityAnswer
+unfoldable pub parity_of : Coord → Result Parity Refusal
 unfolding is_lattice_point
-parity_of c = refuse_unless (is_lattice_point c) (parity.Refused (InvalidParity c)) (parity.Is (cond (is_odd c.x) Odd Even))
+parity_of c = refuse_unless (is_lattice_point c) (Err (InvalidParity c)) (Ok (cond (is_odd c.x) Odd Even))
 
 -- what is said of a point by its parity, or of the refusal of it
-abbrev pub on_parity : {A : Type 0} → (Refusal → A) → (Parity → A) → ParityAnswer → A
-on_parity refused f (parity.Refused r) = refused r
-on_parity refused f (parity.Is p) = f p
+abbrev pub on_parity : {A : Type 0} → (Refusal → A) → (Parity → A) → Result Parity Refusal → A
+on_parity refused f (Err r) = refused r
+on_parity refused f (Ok p) = f p
 
 -- the same of two points: the first is tested first
-abbrev pub on_parities : {A : Type 0} → (Refusal → A) → (Parity → Parity → A) → ParityAnswer → ParityAnswer → A
+abbrev pub on_parities : {A : Type 0} → (Refusal → A) → (Parity → Parity → A) → Result Parity Refusal → Result Parity Refusal → A
 on_parities refused f p q = on_parity refused (λ a. on_parity refused (f a) q) p
 
 -- the other parity
@@ -108,14 +99,10 @@ has_neighbor_room c =
 abbrev pub spread : {A : Type 0} → (Refusal → A) → Coord → Bool → A → A
 spread refused c room answer = on_parity refused (λ p. refuse_unless room (refused CoordOverflow) answer) (parity_of c)
 
--- refused: no neighbour's coordinates are handed over
-abbrev pub no_neighbors : Refusal → Neighbors
-no_neighbors r = record { outcome = outcome.Refused r; coords = replicate 14 origin }
-
 -- the 14 neighbours: "Parity first, then CoordOverflow"
-unfoldable pub neighbors_of : Coord → Neighbors
+unfoldable pub neighbors_of : Coord → Result (List Coord) Refusal
 unfolding parity_of has_neighbor_room neighbor_places
-neighbors_of c = spread no_neighbors c (has_neighbor_room c) (record { outcome = outcome.Answered; coords = neighbor_places c })
+neighbors_of c = spread Err c (has_neighbor_room c) (Ok (neighbor_places c))
 
 -- ---- children
 
@@ -142,14 +129,10 @@ has_child_room c =
     let high = pos 1073741822 in
     within (negsuc 1073741823) high c.x && (within (negsuc 1073741822) high c.y && within (negsuc 1073741822) high c.z)
 
--- refused: no child's coordinates are handed over
-abbrev pub no_children : Refusal → Children
-no_children r = record { outcome = outcome.Refused r; coords = replicate 8 origin }
-
 -- the eight children: parity, then CoordOverflow
-unfoldable pub children_of : Coord → Children
+unfoldable pub children_of : Coord → Result (List Coord) Refusal
 unfolding parity_of has_child_room child_places
-children_of c = spread no_children c (has_child_room c) (record { outcome = outcome.Answered; coords = child_places c })
+children_of c = spread Err c (has_child_room c) (Ok (child_places c))
 
 -- ---- parent
 
@@ -196,9 +179,9 @@ parent_as Even q = even_parent q
 parent_as Odd q = odd_parent q
 
 -- the one lattice point whose child it is: `one_parent` of proofs/Theorems.antt
-unfoldable pub parent_of : Coord → CoordAnswer
+unfoldable pub parent_of : Coord → Result Coord Refusal
 unfolding parity_of
-parent_of c = on_parity coord.Refused (λ p. coord.At (parent_as p (halves c))) (parity_of c)
+parent_of c = on_parity Err (λ p. Ok (parent_as p (halves c))) (parity_of c)
 
 -- ---- Manhattan distance
 
@@ -212,7 +195,7 @@ manhattan a b = apart a.x b.x + apart a.y b.y + apart a.z b.z
 
 -- "parity of the first, of the second; CoordOverflow when a difference leaves i32 [...] also when the sum passes 2147483647": a difference that leaves i32 is itself above 2147483647,
 -- so the sum decides: `both-tests` of distance/proofs/Theorems.antt
-unfoldable pub manhattan_of : Coord → Coord → NumberAnswer
+unfoldable pub manhattan_of : Coord → Coord → Result ℤ Refusal
 unfolding parity_of manhattan
 manhattan_of a b =
-    on_parities number.Refused (λ p q. refuse_unless (leb (manhattan a b) most_number) (number.Refused CoordOverflow) (number.Is (pos (manhattan a b)))) (parity_of a) (parity_of b)
+    on_parities Err (λ p q. refuse_unless (leb (manhattan a b) most_number) (Err CoordOverflow) (Ok (pos (manhattan a b)))) (parity_of a) (parity_of b)

@@ -1,15 +1,14 @@
 -- What it is to be a point's one parent, which `one_parent` of proofs/Theorems.antt shows, and the parent of an even point as lattice.rs takes it, which
 -- `count-of-odd-halves` shows to be the same. Definitions only.
-use Rattle.std.specs.Prelude.{Bool, true, not, cond, ◌||◌, ◌≡◌, ℕ, ◌+◌, eqb, pos, ◌-ℤ◌}
+use Rattle.std.specs.Prelude.{Bool, true, not, cond, ◌||◌, ◌≡◌, ℕ, ◌+◌, eqb, pos, ◌-ℤ◌, Ok}
 use mathlib.Core.List.{Memᴰ}
 use Rattle.std.specs.Int.Signed.{quot_z}
 use Rattle.refusal.specs.declared.Coord.{Coord}
-use Rattle.lattice.specs.declared.CoordAnswer.TheVariants as coord
 use Rattle.lattice.specs.Lattice.{at, is_odd, is_lattice_point, child_places, parent_of}
 
 -- p is the one parent of c: it is the one told, a lattice point with c among its child places, and no other lattice point has c there
 pub record OnlyParent (c p : Coord) : Type 0 where
-  pub told : parent_of c ≡ coord.At p
+  pub told : parent_of c ≡ Ok p
   pub point : is_lattice_point p ≡ true
   pub child : Memᴰ c (child_places p)
   pub only : (q : Coord) → is_lattice_point q ≡ true → Memᴰ c (child_places q) → q ≡ p

@@ -1,54 +1,21 @@
 // The body-centred cubic lattice on whole numbers: which points belong to it, their 14 neighbours, 8 children and parent, and the Manhattan distance.
 #![tactic(auto)]
 
-ghost use Rattle.std.specs.Prelude.{◌≡◌, true, not, ◌&&◌, ◌<◌, ◌^◌, nat_abs, ◌-ℤ◌};
+ghost use Rattle.std.specs.Prelude.{◌≡◌, true, not, ◌<◌, ◌^◌, nat_abs, ◌-ℤ◌};
 ghost use Rattle.std.specs.Bool.{beq};
 ghost use Rattle.std.specs.Int.{w32};
 ghost use Rattle.std.proofs.Common.{SFits};
 ghost use Rattle.lattice.specs.Lattice.{is_odd, is_lattice_point, parity_of, opposite_of, Fitting, at, moved, doubled, within, has_neighbor_room};
-ghost use Rattle.lattice.specs.Lattice.{neighbor_places, no_neighbors, neighbors_of, has_child_room, child_places, no_children, children_of, half};
+ghost use Rattle.lattice.specs.Lattice.{neighbor_places, neighbors_of, has_child_room, child_places, children_of, half};
 ghost use Rattle.lattice.specs.Lattice.{halves, raised, differing_axis, take_one_off, even_parent, odd_parent, parent_of, apart, manhattan, manhattan_of};
 
-use refusal::{Coord, Outcome, Refusal};
+use refusal::{Coord, Refusal};
 
 // What the three coordinates of a lattice point have in common.
-#[derive(Clone, Copy)]
+#[derive(Clone, Copy, PartialEq, Eq)]
 pub enum Parity {
     Even,
     Odd,
-}
-
-#[derive(Clone, Copy)]
-pub enum ParityAnswer {
-    Is(Parity),
-    Refused(Refusal),
-}
-
-#[derive(Clone, Copy)]
-pub enum CoordAnswer {
-    At(Coord),
-    Refused(Refusal),
-}
-
-// A whole number, such as a Manhattan distance.
-#[derive(Clone, Copy)]
-pub enum NumberAnswer {
-    Is(i32),
-    Refused(Refusal),
-}
-
-// The 14 neighbours in the table's order; all zero where they are refused.
-#[derive(Clone, Copy)]
-pub struct Neighbors {
-    pub outcome: Outcome,
-    pub coords: [Coord; 14],
-}
-
-// The 8 children in the table's order; all zero where they are refused.
-#[derive(Clone, Copy)]
-pub struct Children {
-    pub outcome: Outcome,
-    pub coords: [Coord; 8],
 }
 
 // The other parity.
@@ -69,53 +36,33 @@ fn is_odd(x: i32) -> bool
 }
 
 // All even or all odd.
+#[tactic(auto, unfolding(crate::specs::Lattice::is_lattice_point))]
 pub fn is_valid_lattice_point(c: Coord) -> bool
     ensures { result ≡ is_lattice_point c }
 {
-    let a = is_odd(c.x);
-    let b = is_odd(c.y);
-    let d = is_odd(c.z);
-    if a == b {
-        return b == d;
-    }
-    false
+    is_odd(c.x) == is_odd(c.y) && is_odd(c.y) == is_odd(c.z)
 }
 
 // The parity of a lattice point; any other place is refused, and named.
-pub fn parity_of(c: Coord) -> ParityAnswer
+#[tactic(auto, unfolding(crate::specs::Lattice::parity_of))]
+pub fn parity_of(c: Coord) -> Result<Parity, Refusal>
     ensures { result ≡ parity_of c }
 {
-    let valid = is_valid_lattice_point(c);
-    let odd = is_odd(c.x);
-    if valid {
-        if odd {
-            return ParityAnswer::Is(Parity::Odd);
-        }
-        return ParityAnswer::Is(Parity::Even);
+    if !is_valid_lattice_point(c) {
+        return Err(Refusal::InvalidParity(c));
     }
-    ParityAnswer::Refused(Refusal::InvalidParity(c))
+    if is_odd(c.x) {
+        Ok(Parity::Odd)
+    } else {
+        Ok(Parity::Even)
+    }
 }
 
 // From low to high, both ends counted.
 fn is_within(low: i32, high: i32, x: i32) -> bool
     ensures { result ≡ within low high x }
 {
-    if low <= x {
-        return x <= high;
-    }
-    false
-}
-
-// One test for each coordinate.
-fn all_three(a: bool, b: bool, d: bool) -> bool
-    ensures { result ≡ (a && (b && d)) }
-{
-    if a {
-        if b {
-            return d;
-        }
-    }
-    false
+    (low..=high).contains(&x)
 }
 
 // The coordinates whose neighbours' fit 32 bits.
@@ -124,14 +71,13 @@ const LEAST_WITH_NEIGHBORS: i32 = -2147483646;
 const MOST_WITH_NEIGHBORS: i32 = 2147483645;
 
 // A step of two fits, whichever way.
+#[tactic(auto, unfolding(crate::specs::Lattice::has_neighbor_room))]
 pub fn has_neighbor_room(c: Coord) -> bool
     ensures { result ≡ has_neighbor_room c }
 {
-    all_three(
-        is_within(LEAST_WITH_NEIGHBORS, MOST_WITH_NEIGHBORS, c.x),
-        is_within(LEAST_WITH_NEIGHBORS, MOST_WITH_NEIGHBORS, c.y),
-        is_within(LEAST_WITH_NEIGHBORS, MOST_WITH_NEIGHBORS, c.z),
-    )
+    is_within(LEAST_WITH_NEIGHBORS, MOST_WITH_NEIGHBORS, c.x)
+        && is_within(LEAST_WITH_NEIGHBORS, MOST_WITH_NEIGHBORS, c.y)
+        && is_within(LEAST_WITH_NEIGHBORS, MOST_WITH_NEIGHBORS, c.z)
 }
 
 // The coordinates whose children's fit 32 bits.
@@ -142,14 +88,13 @@ const LEAST_WITH_CHILDREN: i32 = -1073741823;
 const MOST_WITH_CHILDREN: i32 = 1073741822;
 
 // Every child's coordinates fit.
+#[tactic(auto, unfolding(crate::specs::Lattice::has_child_room))]
 pub fn has_child_room(c: Coord) -> bool
     ensures { result ≡ has_child_room c }
 {
-    all_three(
-        is_within(LEAST_X_WITH_CHILDREN, MOST_WITH_CHILDREN, c.x),
-        is_within(LEAST_WITH_CHILDREN, MOST_WITH_CHILDREN, c.y),
-        is_within(LEAST_WITH_CHILDREN, MOST_WITH_CHILDREN, c.z),
-    )
+    is_within(LEAST_X_WITH_CHILDREN, MOST_WITH_CHILDREN, c.x)
+        && is_within(LEAST_WITH_CHILDREN, MOST_WITH_CHILDREN, c.y)
+        && is_within(LEAST_WITH_CHILDREN, MOST_WITH_CHILDREN, c.z)
 }
 
 // The place that many steps away along each axis.
@@ -199,37 +144,16 @@ pub fn neighbor_places(c: Coord) -> [Coord; 14]
     ]
 }
 
-// What stands for a coordinate that is not handed over.
-const NOWHERE: Coord = Coord { x: 0, y: 0, z: 0 };
-
-// Refused.
-fn no_neighbors(r: Refusal) -> Neighbors
-    ensures { result ≡ no_neighbors r }
-{
-    Neighbors {
-        outcome: Outcome::Refused(r),
-        coords: [NOWHERE; 14],
-    }
-}
-
-// The 14 neighbours. Parity is tested first, then room.
-pub fn get_neighbors(c: Coord) -> Neighbors
+// The 14 neighbours in the table's order. Parity is tested first, then room.
+#[tactic(auto, unfolding(crate::specs::Lattice::neighbors_of))]
+pub fn get_neighbors(c: Coord) -> Result<[Coord; 14], Refusal>
     ensures { result ≡ neighbors_of c }
 {
-    let parity = parity_of(c);
-    match parity {
-        ParityAnswer::Refused(r) => no_neighbors(r),
-        ParityAnswer::Is(_) => {
-            if has_neighbor_room(c) {
-                let coords = neighbor_places(c);
-                Neighbors {
-                    outcome: Outcome::Answered,
-                    coords,
-                }
-            } else {
-                no_neighbors(Refusal::CoordOverflow)
-            }
-        }
+    parity_of(c)?;
+    if has_neighbor_room(c) {
+        Ok(neighbor_places(c))
+    } else {
+        Err(Refusal::CoordOverflow)
     }
 }
 
@@ -251,34 +175,16 @@ pub fn child_places(c: Coord) -> [Coord; 8]
     ]
 }
 
-// Refused.
-fn no_children(r: Refusal) -> Children
-    ensures { result ≡ no_children r }
-{
-    Children {
-        outcome: Outcome::Refused(r),
-        coords: [NOWHERE; 8],
-    }
-}
-
-// The 8 children. Parity is tested first, then room.
-pub fn get_children(c: Coord) -> Children
+// The 8 children in the table's order. Parity is tested first, then room.
+#[tactic(auto, unfolding(crate::specs::Lattice::children_of, crate::specs::Lattice::parity_of))]
+pub fn get_children(c: Coord) -> Result<[Coord; 8], Refusal>
     ensures { result ≡ children_of c }
 {
-    let parity = parity_of(c);
-    match parity {
-        ParityAnswer::Refused(r) => no_children(r),
-        ParityAnswer::Is(_) => {
-            if has_child_room(c) {
-                let coords = child_places(c);
-                Children {
-                    outcome: Outcome::Answered,
-                    coords,
-                }
-            } else {
-                no_children(Refusal::CoordOverflow)
-            }
-        }
+    parity_of(c)?; // tested before the room
+    if has_child_room(c) {
+        Ok(child_places(c))
+    } else {
+        Err(Refusal::CoordOverflow)
     }
 }
 
@@ -364,12 +270,7 @@ fn raised_to(x: i32, y: i32) -> i32
     requires { SFits w32 (raised true y) }
     ensures { result ≡ raised (not (beq (is_odd x) (is_odd y))) y }
 {
-    let a = is_odd(x);
-    let b = is_odd(y);
-    if a == b {
-        return y;
-    }
-    y + 1
+    if is_odd(x) == is_odd(y) { y } else { y + 1 }
 }
 
 // Of an odd point: halve, and add one to y and to z where their parity differs from that of x. The rule for even points would be wrong here: of (-3,1,-1),
@@ -386,16 +287,13 @@ fn odd_parent(c: Coord) -> Coord
 }
 
 // The one point whose child this is.
-pub fn get_parent(c: Coord) -> CoordAnswer
+#[tactic(auto, unfolding(crate::specs::Lattice::parent_of))]
+pub fn get_parent(c: Coord) -> Result<Coord, Refusal>
     ensures { result ≡ parent_of c }
 {
-    let parity = parity_of(c);
-    match parity {
-        ParityAnswer::Refused(r) => CoordAnswer::Refused(r),
-        ParityAnswer::Is(p) => match p {
-            Parity::Even => CoordAnswer::At(even_parent(c)),
-            Parity::Odd => CoordAnswer::At(odd_parent(c)),
-        },
+    match parity_of(c)? {
+        Parity::Even => Ok(even_parent(c)),
+        Parity::Odd => Ok(odd_parent(c)),
     }
 }
 
@@ -428,6 +326,7 @@ fn apart(a: i32, b: i32) -> u32
 const MOST_NUMBER: u64 = 2147483647;
 
 // The sum of the three distances, in 64 bits.
+#[tactic(auto, unfolding(crate::specs::Lattice::manhattan))]
 fn manhattan(a: Coord, b: Coord) -> u64
     ensures { result ≡ manhattan a b }
 {
@@ -435,23 +334,16 @@ fn manhattan(a: Coord, b: Coord) -> u64
 }
 
 // The Manhattan distance: parity of the first, then of the second, then whether the sum fits.
-pub fn manhattan_distance_to(a: Coord, b: Coord) -> NumberAnswer
+#[tactic(auto, unfolding(crate::specs::Lattice::manhattan_of))]
+pub fn manhattan_distance_to(a: Coord, b: Coord) -> Result<i32, Refusal>
     ensures { result ≡ manhattan_of a b }
 {
-    let first = parity_of(a);
-    let second = parity_of(b);
+    parity_of(a)?;
+    parity_of(b)?;
     let n = manhattan(a, b);
-    match first {
-        ParityAnswer::Refused(r) => NumberAnswer::Refused(r),
-        ParityAnswer::Is(_) => match second {
-            ParityAnswer::Refused(r) => NumberAnswer::Refused(r),
-            ParityAnswer::Is(_) => {
-                if n <= MOST_NUMBER {
-                    NumberAnswer::Is(n as i32)
-                } else {
-                    NumberAnswer::Refused(Refusal::CoordOverflow)
-                }
-            }
-        },
+    if n <= MOST_NUMBER {
+        Ok(n as i32)
+    } else {
+        Err(Refusal::CoordOverflow)
     }
 }

@@ -13,8 +13,8 @@ pub struct Coord {
     pub z: i32,
 }
 
-// A packed cell, in two words of 64 bits.
-#[derive(Clone, Copy)]
+// A packed cell, in two words of 64 bits. Cells are ordered as numbers of 128 bits.
+#[derive(Clone, Copy, PartialEq, Eq, PartialOrd, Ord)]
 pub struct Cell {
     // Bits 64 to 127: y, then z.
     pub high: u64,
@@ -91,13 +91,6 @@ pub enum Refusal {
     BadLayer,
     BadRule,
     BadLabel(Mistyped),
-}
-
-// What a call that hands its answer over beside it says: it is there, or it is refused.
-#[derive(Clone, Copy)]
-pub enum Outcome {
-    Answered,
-    Refused(Refusal),
 }
 
 // A refusal's row of the table: its number, and what it carries. What it does not carry is 0.
@@ -246,11 +239,4 @@ pub fn number(r: Refusal) -> u32
     ensures { result ≡ number_of r }
 {
     row_of(r).number
-}
-
-// How many cells a call lists, or a layer has.
-#[derive(Clone, Copy)]
-pub enum CountAnswer {
-    Cells(usize),
-    Refused(Refusal),
 }

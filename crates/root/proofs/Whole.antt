@@ -1,4 +1,5 @@
 -- What the tests of `square_root` say of x, and what `root_of` is there. `one`, `big` and `nought` are the constants 1, 2 ^ 64 and +0.
+use Rattle.std.specs.Prelude.{Ok, Err}
 use Rattle.std.proofs.Common.{◌≡◌, ℕ, suc, ◌*◌, ◌/◌, ◌%◌, ◌^◌, ◌<◌, ◌≤◌, Bool, true, false, not, ◌&&◌, ◌||◌, T, eqb, ltb, leb, ℤ, pos, negsuc, sym, refl, ap, ◌∙◌, subst, true≢false, le_of_eq, lt_of_le_of_lt, le_of_lt, mul-le-mul_right, mod-eq_of_lt, div-lt_iff_lt-mul, le_antisymm, one-mul, div-add-mod', le-div_iff_mul-le, zero-mul, mul-one, div-le_self, mul_right_comm, not-le_of_lt, le_of_mul-le-mul_right, arith, le→leb, eqb→eq, ltb→lt, leb→le, nltb→le, eq-eqb, eqb-true}
 use native.Mathlib.Nat.{mod-one}
 use mathlib.Core.Bool.{false≢true, and-true}
@@ -11,7 +12,6 @@ use lib.Ieee.Bits.{is_true}
 use Rattle.refusal.specs.declared.Refusal.TheVariants.{OutOfRange}
 use Rattle.float.proofs.Laws as laws
 use Rattle.float.proofs.Laws.{so, at_most, level-or-below, digits_of, cut-is}
-use Rattle.root.specs.declared.Root.TheVariants.{Of, Refused}
 use Rattle.root.specs.Root.{root_of, root_whole}
 use Rattle.root.proofs.Answers.{in-range, out_of_range}
 
@@ -126,7 +126,7 @@ back-test m e h =
     (λ t. eq→eqb (whole_part (m * up e) (down e) (eqb→eq (m * up e / down e * down e) (m * up e) t)))
     (λ t. eq→eqb (part-whole (m * up e) (down e) (eqb→eq (m * up e % down e) 0 t)))
 
-pub root_below : (x : Float) → le one x ≡ true → lt x big ≡ true → to_unsigned 64 x < 9007199254740992 → eq (of_int binary64 (pos (to_unsigned 64 x))) x ≡ true → root_of x ≡ Of (root_whole (to_unsigned 64 x))
+pub root_below : (x : Float) → le one x ≡ true → lt x big ≡ true → to_unsigned 64 x < 9007199254740992 → eq (of_int binary64 (pos (to_unsigned 64 x))) x ≡ true → root_of x ≡ Ok (root_whole (to_unsigned 64 x))
 root_below nan a b l c = absurd (false≢true (unfold le in a))
 root_below (inf true) a b l c = absurd (false≢true (unfold le in a))
 root_below (inf false) a b l c = absurd (false≢true (unfold lt in b))
@@ -135,9 +135,9 @@ root_below (fin false m e) a b l c =
     let i = cast_is m e a b in
     let t = back-test m e (le_of_lt (subst (λ (k : ℕ). k < 9007199254740992) i l)) in
     in-range m e (eqb→eq (m * up e % down e) 0 (so (sym t ∙ subst (λ (k : ℕ). eq (of_int binary64 (pos k)) (fin false m e) ≡ true) i c))) (le_of_lt (less m e a b))
-    ∙ ap (λ (n : ℕ). Of (root_whole n)) (sym i)
+    ∙ ap (λ (n : ℕ). Ok (root_whole n)) (sym i)
 
-pub none_below : (x : Float) → le one x ≡ true → lt x big ≡ true → to_unsigned 64 x < 9007199254740992 → eq (of_int binary64 (pos (to_unsigned 64 x))) x ≡ false → root_of x ≡ Refused OutOfRange
+pub none_below : (x : Float) → le one x ≡ true → lt x big ≡ true → to_unsigned 64 x < 9007199254740992 → eq (of_int binary64 (pos (to_unsigned 64 x))) x ≡ false → root_of x ≡ Err OutOfRange
 none_below nan a b l c = unfold root_of in refl
 none_below (inf s) a b l c = unfold root_of in refl
 none_below (fin true m e) a b l c = unfold root_of in refl
@@ -151,14 +151,14 @@ large : (m : ℕ) (e : ℤ) → T (fits binary64 (fin false m e)) → 9007199254
 large m (pos k) f h = mod-one (m * 2 ^ k)
 large m (negsuc k) f h = absurd (not-le_of_lt (lt_of_le_of_lt (div-le_self (m * 1) (2 ^ suc k)) (subst (λ (x : ℕ). x < 9007199254740992) (sym (mul-one m)) (digits_of false m (negsuc k) f))) h)
 
-pub root-above : (x : Float) → T (fits binary64 x) → le one x ≡ true → lt x big ≡ true → 9007199254740992 ≤ to_unsigned 64 x → root_of x ≡ Of (root_whole (to_unsigned 64 x))
+pub root-above : (x : Float) → T (fits binary64 x) → le one x ≡ true → lt x big ≡ true → 9007199254740992 ≤ to_unsigned 64 x → root_of x ≡ Ok (root_whole (to_unsigned 64 x))
 root-above nan f a b l = absurd (false≢true (unfold le in a))
 root-above (inf true) f a b l = absurd (false≢true (unfold le in a))
 root-above (inf false) f a b l = absurd (false≢true (unfold lt in b))
 root-above (fin true m e) f a b l = absurd (not_negative m e a)
 root-above (fin false m e) f a b l =
     let i = cast_is m e a b in
-    in-range m e (large m e f (subst (λ (k : ℕ). 9007199254740992 ≤ k) i l)) (le_of_lt (less m e a b)) ∙ ap (λ (n : ℕ). Of (root_whole n)) (sym i)
+    in-range m e (large m e f (subst (λ (k : ℕ). 9007199254740992 ≤ k) i l)) (le_of_lt (less m e a b)) ∙ ap (λ (n : ℕ). Ok (root_whole n)) (sym i)
 
 -- ---- 2 ^ 64 and above
 clash : (a d : ℕ) → 0 < d → a ≡ 18446744073709551616 * d → a ≡ 0 → ⊥
@@ -180,7 +180,7 @@ is-big (fin false m e) f c =
     whole_unique binary64 (fin false m e) big false 18446744073709551616 f (unfold fits in tt)
     (refl, mul-one (m * up e) ∙ eqb→eq (m * up e) (18446744073709551616 * down e) (so (sym (eq-big m e) ∙ c))) (refl, refl)
 
-pub too-big : (x : Float) → lt x big ≡ false → eq x big ≡ false → root_of x ≡ Refused OutOfRange
+pub too-big : (x : Float) → lt x big ≡ false → eq x big ≡ false → root_of x ≡ Err OutOfRange
 too-big nan a b = unfold root_of in refl
 too-big (inf s) a b = unfold root_of in refl
 too-big (fin true m e) a b = unfold root_of in refl
@@ -215,14 +215,14 @@ is-nought (inf s) f c t = absurd (false≢true (unfold eq in c))
 is-nought (fin true m e) f c t = absurd (minus-bits m e t)
 is-nought (fin false m e) f c t = nought-of m e f (eqb→eq (m * up e) 0 (so (sym (eq-nought m e) ∙ c)))
 
-pub minus-nought : (x : Float) → T (fits binary64 x) → eq x nought ≡ true → (to_bits binary64 x ≡ 0 → ⊥) → root_of x ≡ Refused OutOfRange
+pub minus-nought : (x : Float) → T (fits binary64 x) → eq x nought ≡ true → (to_bits binary64 x ≡ 0 → ⊥) → root_of x ≡ Err OutOfRange
 minus-nought nan f c t = unfold root_of in refl
 minus-nought (inf s) f c t = unfold root_of in refl
 minus-nought (fin true m e) f c t = unfold root_of in refl
 minus-nought (fin false m e) f c t =
     absurd (t (ap (λ (x : Float). to_bits binary64 x) (nought-of m e f (eqb→eq (m * up e) 0 (so (sym (eq-nought m e) ∙ c)))) ∙ unfold to_bits in refl))
 
-pub too_small : (x : Float) → le one x ≡ false → eq x nought ≡ false → root_of x ≡ Refused OutOfRange
+pub too_small : (x : Float) → le one x ≡ false → eq x nought ≡ false → root_of x ≡ Err OutOfRange
 too_small nan a b = unfold root_of in refl
 too_small (inf s) a b = unfold root_of in refl
 too_small (fin true m e) a b = unfold root_of in refl

@@ -10,20 +10,6 @@ ghost use Rattle.root.specs.Root.{root_whole, root_of, root_bits_of};
 
 use refusal::Refusal;
 
-// The root of an f64, or why there is none.
-#[derive(Clone, Copy)]
-pub enum Root {
-    Of(f64),
-    Refused(Refusal),
-}
-
-// The same by the bits of the f64, so that every pattern, a NaN's too, can be asked for.
-#[derive(Clone, Copy)]
-pub enum RootBits {
-    Bits(u64),
-    Refused(Refusal),
-}
-
 // The first 9 digits of the root of n, more or less: a parabola's value at the leading 16 digits. Of how near it is nothing is proved.
 fn first_guess(n: u64) -> u64
     requires { 4611686018427387904 ≤ n }
@@ -105,7 +91,7 @@ fn whole_root(n: u64) -> f64
 }
 
 // The root of +0.0 and of each whole number from 1 to 2^64.
-pub fn square_root(x: f64) -> Root
+pub fn square_root(x: f64) -> Result<f64, Refusal>
     ensures { result ≡ root_of x }
 {
     if x >= 1.0 {
@@ -113,35 +99,33 @@ pub fn square_root(x: f64) -> Root
             let n = std::num::truncating_f64_to_u64(x);
             if n < 9007199254740992 {
                 if n as f64 == x {
-                    return Root::Of(whole_root(n));
+                    return Ok(whole_root(n));
                 }
             } else {
-                return Root::Of(whole_root(n));
+                return Ok(whole_root(n));
             }
         } else {
             if x == 18446744073709551616.0 {
-                return Root::Of(4294967296.0);
+                return Ok(4294967296.0);
             }
         }
     } else {
         if x == 0.0 {
             if f64::to_bits(x) == 0 {
-                return Root::Of(0.0);
+                return Ok(0.0);
             }
         }
     }
-    Root::Refused(Refusal::OutOfRange)
+    Err(Refusal::OutOfRange)
 }
 
 // The root by its bits, for every pattern of 64 bits. Of a NaN's no f64 may be made.
-pub fn square_root_bits(bits: u64) -> RootBits
+pub fn square_root_bits(bits: u64) -> Result<u64, Refusal>
     ensures { result ≡ root_bits_of bits }
 {
     if float::is_nan(bits) {
-        return RootBits::Refused(Refusal::OutOfRange);
+        return Err(Refusal::OutOfRange);
     }
-    match square_root(f64::from_bits(bits)) {
-        Root::Of(r) => RootBits::Bits(f64::to_bits(r)),
-        Root::Refused(why) => RootBits::Refused(why),
-    }
+    let root = square_root(f64::from_bits(bits))?;
+    Ok(f64::to_bits(root))
 }

@@ -1,4 +1,5 @@
 -- What snap answers is a lattice point, and its coordinates are from -2147483647 to 2147483647.
+use Rattle.std.specs.Prelude.{Ok}
 use mathlib.Core.Path.{◌≡◌, refl, sym, ap, subst, ◌∙◌}
 use mathlib.Core.Bool.{Bool, true, false, cond, ◌&&◌, beq}
 use Prim.Native.Nat.{ℕ, ◌≤◌}
@@ -8,7 +9,6 @@ use lib.IntN.{ℤ, pos, negsuc, ◌+ℤ◌, +ℤ_idr}
 use lib.Ieee.{Float, binary64, div, sub, le}
 use borrow.Author.Tests.{le-leb}
 use Rattle.refusal.specs.declared.Coord.{Coord}
-use Rattle.lattice.specs.declared.CoordAnswer.TheVariants.{At}
 use Rattle.lattice.specs.Lattice.{is_odd, is_lattice_point}
 use Rattle.lattice.proofs.SignsLaws.{odd-double}
 use Rattle.float.specs.Round.{whole_away}
@@ -23,14 +23,14 @@ record Answered (p : Point) (resolution : ℕ) (c : Coord) : Type 0 where
   in-range : all_in_range (scaled p resolution) ≡ true
   is : nearer (scaled p resolution) ≡ c
 
-answered : (p : Point) (resolution : ℕ) (c : Coord) → snap_of p resolution ≡ At c → Answered p resolution c
+answered : (p : Point) (resolution : ℕ) (c : Coord) → snap_of p resolution ≡ Ok c → Answered p resolution c
 unfolding snap_of
 answered p resolution c e = go (all_in_range s) refl e
   where
     s : Point
     s = scaled p resolution
 
-    go : (b : Bool) → all_in_range s ≡ b → snap_in b s ≡ At c → Answered p resolution c
+    go : (b : Bool) → all_in_range s ≡ b → snap_in b s ≡ Ok c → Answered p resolution c
     go true a e = record { in-range = a; is = cc }
     go false a e = record { in-range = cc; is = cc }
 
@@ -62,7 +62,7 @@ unfolding is_lattice_point
 odd-valid p = (λ i. beq (odd-near p.x i) (odd-near p.y i) && beq (odd-near p.y i) (odd-near p.z i))
 
 -- snap answers with a lattice point
-pub snap-is-point : (p : Point) (resolution : ℕ) (c : Coord) → snap_of p resolution ≡ At c → is_lattice_point c ≡ true
+pub snap-is-point : (p : Point) (resolution : ℕ) (c : Coord) → snap_of p resolution ≡ Ok c → is_lattice_point c ≡ true
 snap-is-point p resolution c e =
     let s = scaled p resolution in
     subst (λ (d : Coord). is_lattice_point d ≡ true) (answered p resolution c e).is
@@ -81,7 +81,7 @@ odd-bounded : (v : Float) → in_range v ≡ true → bounded (odd_near v) ≡ t
 odd-bounded v h = range-bounded 2147483647 2147483647 (lit≤ tt) (lit≤ tt) (odd_near v) (odd-range v h)
 
 -- snap answers with coordinates from -2147483647 to 2147483647
-pub snap-fits : (p : Point) (resolution : ℕ) (c : Coord) → snap_of p resolution ≡ At c → Bounded c
+pub snap-fits : (p : Point) (resolution : ℕ) (c : Coord) → snap_of p resolution ≡ Ok c → Bounded c
 snap-fits p resolution c e =
     let s = scaled p resolution in
     let a = answered p resolution c e in

@@ -5,4 +5,3 @@ pub mod Fields
 pub mod Answers
 pub mod Points
 pub mod OneAnswer
-pub mod Split

@@ -1,21 +1,16 @@
 -- "Snap takes a physical point of three f64 coordinates and a resolution. Each is multiplied by 2^resolution. NaN, infinite, or above 2147483646 in magnitude is OutOfRange.
 -- Candidates: even, round(v/2)*2; odd, round((v-1)/2)*2+1, halves away from zero. Squared distances add x, y, z in order, a square being one product; the even point wins a tie."
 -- The scope document's sentences, in their order, over IEEE 754's operations, each rounded once. Definitions only.
-use Rattle.std.specs.Prelude.{Bool, true, false, cond, ◌&&◌, ℕ, ℤ, pos, ◌+ℤ◌, Float}
+use Rattle.refusal.specs.declared.Refusal.{Refusal}
+use Rattle.std.specs.Prelude.{Bool, true, false, cond, ◌&&◌, ℕ, ℤ, pos, ◌+ℤ◌, Float, Result, Ok, Err}
 use Rattle.std.specs.Float.{fin, binary64}
 use Rattle.std.specs.Float.Ieee.{of_int, add, sub, mul, div, le, to_bits}
 use Rattle.refusal.specs.declared.Coord.{Coord}
 use Rattle.refusal.specs.declared.Refusal.TheVariants.{OutOfRange}
 use Rattle.float.specs.Round.{whole_away}
-use Rattle.lattice.specs.declared.CoordAnswer.{CoordAnswer}
-use Rattle.lattice.specs.declared.CoordAnswer.TheVariants as coord
 use Rattle.lattice.specs.Lattice.{at, parity_of, on_parity}
 use Rattle.snap.specs.declared.Point.{Point}
-use Rattle.snap.specs.declared.PointAnswer.{PointAnswer}
-use Rattle.snap.specs.declared.PointAnswer.TheVariants.{Is, Refused}
 use Rattle.snap.specs.declared.BitsOfPoint.{BitsOfPoint}
-use Rattle.snap.specs.declared.PointBits.{PointBits}
-use Rattle.snap.specs.declared.PointBits.TheVariants as patterns
 
 -- the physical point with these coordinates
 abbrev pub point : Float → Float → Float → Point
@@ -83,21 +78,21 @@ unfolding even_near odd_near squares_off le
 nearer p = cond (le (squares_off (even_point p) p) (squares_off (odd_point p) p)) (even_point p) (odd_point p)
 
 -- the nearer candidate of a scaled point that is in range, else OutOfRange
-abbrev pub snap_in : Bool → Point → CoordAnswer
-snap_in true p = coord.At (nearer p)
-snap_in false p = coord.Refused OutOfRange
+abbrev pub snap_in : Bool → Point → Result Coord Refusal
+snap_in true p = Ok (nearer p)
+snap_in false p = Err OutOfRange
 
 -- the lattice point that a physical point snaps to at a resolution: scaled, tested, and the nearer candidate taken
-unfoldable pub snap_of : Point → ℕ → CoordAnswer
+unfoldable pub snap_of : Point → ℕ → Result Coord Refusal
 unfolding scaled all_in_range nearer
 snap_of p resolution = let s = scaled p resolution in snap_in (all_in_range s) s
 
 -- ---- and back: a lattice point's coordinates as floats, each exact
 
 -- a lattice point as a physical one; other places are refused for their parity
-unfoldable pub physical_of : Coord → PointAnswer
+unfoldable pub physical_of : Coord → Result Point Refusal
 unfolding parity_of of_int
-physical_of c = on_parity Refused (λ p. Is (point (of_int binary64 c.x) (of_int binary64 c.y) (of_int binary64 c.z))) (parity_of c)
+physical_of c = on_parity Err (λ p. Ok (point (of_int binary64 c.x) (of_int binary64 c.y) (of_int binary64 c.z))) (parity_of c)
 
 -- ---- a physical point by its coordinates' bit patterns
 
@@ -106,11 +101,11 @@ abbrev pub bits_of : Point → BitsOfPoint
 bits_of p = record { x = to_bits binary64 p.x; y = to_bits binary64 p.y; z = to_bits binary64 p.z }
 
 -- an answer by its bits
-abbrev pub bits_by : PointAnswer → PointBits
-bits_by (Is p) = patterns.Is (bits_of p)
-bits_by (Refused r) = patterns.Refused r
+abbrev pub bits_by : Result Point Refusal → Result BitsOfPoint Refusal
+bits_by (Ok p) = Ok (bits_of p)
+bits_by (Err r) = Err r
 
 -- a lattice point as a physical one, by its bits
-unfoldable pub physical_bits_of : Coord → PointBits
+unfoldable pub physical_bits_of : Coord → Result BitsOfPoint Refusal
 unfolding physical_of
 physical_bits_of c = bits_by (physical_of c)

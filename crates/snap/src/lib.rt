@@ -7,7 +7,6 @@ ghost use Rattle.std.specs.Float.Ieee.{of_bits};
 ghost use Rattle.snap.specs.Snap.{point, scaled, in_range, all_in_range, even_near, odd_near, even_point, odd_point, square_off, squares_off, nearer};
 ghost use Rattle.snap.specs.Snap.{snap_of, physical_of, bits_of, physical_bits_of};
 
-use lattice::{CoordAnswer, ParityAnswer};
 use refusal::{Coord, Refusal};
 
 // A physical point.
@@ -18,12 +17,6 @@ pub struct Point {
     pub z: f64,
 }
 
-#[derive(Clone, Copy)]
-pub enum PointAnswer {
-    Is(Point),
-    Refused(Refusal),
-}
-
 // A physical point by the bit patterns of its coordinates.
 #[derive(Clone, Copy)]
 pub struct BitsOfPoint {
@@ -32,13 +25,8 @@ pub struct BitsOfPoint {
     pub z: u64,
 }
 
-#[derive(Clone, Copy)]
-pub enum PointBits {
-    Is(BitsOfPoint),
-    Refused(Refusal),
-}
-
 // Each coordinate times 2^resolution.
+#[tactic(auto, unfolding(crate::specs::Snap::scaled))]
 fn scaled(p: Point, resolution: u8) -> Point
     ensures { result ≡ scaled p resolution }
 {
@@ -104,6 +92,7 @@ fn odd_point(p: Point) -> Coord
     }
 }
 
+#[tactic(auto, unfolding(crate::specs::Snap::square_off))]
 fn square_off(n: i32, v: f64) -> f64
     ensures { result ≡ square_off n v }
 {
@@ -112,6 +101,7 @@ fn square_off(n: i32, v: f64) -> f64
 }
 
 // The square of a candidate's distance from the point.
+#[tactic(auto, unfolding(crate::specs::Snap::squares_off))]
 fn squares_off(c: Coord, p: Point) -> f64
     ensures { result ≡ squares_off c p }
 {
@@ -119,6 +109,7 @@ fn squares_off(c: Coord, p: Point) -> f64
 }
 
 // The nearer of the two candidates; at a tie the even one.
+#[tactic(auto, unfolding(crate::specs::Snap::nearer))]
 fn nearer(p: Point) -> Coord
     requires { all_in_range p ≡ true }
     ensures { result ≡ nearer p }
@@ -132,37 +123,38 @@ fn nearer(p: Point) -> Coord
 }
 
 // The lattice point nearest to a physical point at a resolution.
-pub fn physical_to_lattice(p: Point, resolution: u8) -> CoordAnswer
+#[tactic(auto, unfolding(crate::specs::Snap::snap_of))]
+pub fn physical_to_lattice(p: Point, resolution: u8) -> Result<Coord, Refusal>
     ensures { result ≡ snap_of p resolution }
 {
     let s = scaled(p, resolution);
     if all_in_range(s) {
-        return CoordAnswer::At(nearer(s));
+        Ok(nearer(s))
+    } else {
+        Err(Refusal::OutOfRange)
     }
-    CoordAnswer::Refused(Refusal::OutOfRange)
 }
 
 // A lattice point's coordinates as physical ones.
-pub fn to_physical(c: Coord) -> PointAnswer
+#[tactic(auto, unfolding(crate::specs::Snap::physical_of))]
+pub fn to_physical(c: Coord) -> Result<Point, Refusal>
     ensures { result ≡ physical_of c }
 {
-    match lattice::parity_of(c) {
-        ParityAnswer::Refused(r) => PointAnswer::Refused(r),
-        ParityAnswer::Is(_) => PointAnswer::Is(Point {
-            x: c.x as f64,
-            y: c.y as f64,
-            z: c.z as f64,
-        }),
-    }
+    lattice::parity_of(c)?;
+    Ok(Point {
+        x: c.x as f64,
+        y: c.y as f64,
+        z: c.z as f64,
+    })
 }
 
 // Snap by the coordinates' bit patterns: every pattern is taken, and a NaN's is out of range.
 #[tactic(auto, using(crate::proofs::Answers::nan_x, crate::proofs::Answers::nan_y, crate::proofs::Answers::nan_z))]
-pub fn snap_bits(x: u64, y: u64, z: u64, resolution: u8) -> CoordAnswer
+pub fn snap_bits(x: u64, y: u64, z: u64, resolution: u8) -> Result<Coord, Refusal>
     ensures { result ≡ snap_of (point (of_bits binary64 x) (of_bits binary64 y) (of_bits binary64 z)) resolution }
 {
     if float::is_nan(x) || float::is_nan(y) || float::is_nan(z) {
-        return CoordAnswer::Refused(Refusal::OutOfRange);
+        return Err(Refusal::OutOfRange);
     }
     physical_to_lattice(
         Point {
@@ -185,11 +177,10 @@ fn bits_of(p: Point) -> BitsOfPoint
 }
 
 // A lattice point's coordinates as the bit patterns of physical ones.
-pub fn physical_bits(c: Coord) -> PointBits
+#[tactic(auto, unfolding(crate::specs::Snap::physical_bits_of))]
+pub fn physical_bits(c: Coord) -> Result<BitsOfPoint, Refusal>
     ensures { result ≡ physical_bits_of c }
 {
-    match to_physical(c) {
-        PointAnswer::Refused(r) => PointBits::Refused(r),
-        PointAnswer::Is(p) => PointBits::Is(bits_of(p)),
-    }
+    let p = to_physical(c)?;
+    Ok(bits_of(p))
 }

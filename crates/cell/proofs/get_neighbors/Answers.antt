@@ -1,35 +1,29 @@
--- Each answer by the tests that led to it: the parity, then the room.
-use mathlib.Core.Path.{◌∙◌, ap}
-use mathlib.Core.List.{map}
+-- The plain cells at the neighbouring places, or the refusal of these.
+use Rattle.std.proofs.Common.{◌≡◌, List, map, Result, Ok, Err, sym, ap, ◌∙◌}
+use Rattle.std.proofs.lemmas.Result.{err_from_is_err_and}
+use Rattle.refusal.specs.declared.Coord.{Coord}
 use Rattle.refusal.specs.declared.Cell.{Cell}
-use Rattle.refusal.specs.declared.Outcome.TheVariants.{Answered}
-use Rattle.lattice.specs.Lattice.{has_neighbor_room, neighbor_places}
-use Rattle.lattice.proofs.Spread.{spread-refused, spread-room}
-use Rattle.cell.specs.declared.Neighbors.{Neighbors}
-use Rattle.cell.specs.Cell.{plain_at, no_neighbors, near_cells, neighbors_of}
+use Rattle.refusal.specs.declared.Refusal.{Refusal}
+use Rattle.lattice.specs.Lattice as lattice
+use Rattle.cell.specs.Cell.{frame_of, resolution_of, coord_of, plain_at, near_cells, neighbors_of}
+use Rattle.cell.proofs.Spread.{made, spread-made}
 use Rattle.cell.proofs.get_neighbors.Goals as goal
 
-abbrev listed : Cell → Neighbors
-listed c = record { outcome = Answered; cells = near_cells c }
+-- by what is answered of the places
+by-places : (c : Cell) {p : Coord} {a : Result (List Coord) Refusal} → p ≡ coord_of c → lattice.neighbors_of p ≡ a
+    → made (map (plain_at (frame_of c) (resolution_of c))) a ≡ neighbors_of c
+unfolding lattice.neighbors_of near_cells neighbors_of
+by-places c place known =
+    let cells = map (plain_at (frame_of c) (resolution_of c)) in
+    ap (made cells) (sym known ∙ ap lattice.neighbors_of place)
+    ∙ sym (spread-made cells (coord_of c) (lattice.has_neighbor_room (coord_of c)) (lattice.neighbor_places (coord_of c)))
 
-pub returns-in-Refused : goal.returns-in-Refused
-unfolding neighbors_of
-returns-in-Refused c =
-    let parity = c.parity_of-parity in
-    let place = c.coord-place in
-    c.no_neighbors.ensures
-    ∙ spread-refused no_neighbors place.ensures has_neighbor_room (listed c.args.c) parity.ensures c.in-Refused.is
+pub returns-in_err-places : goal.returns-in_err-places
+returns-in_err-places c =
+    let p = err_from_is_err_and c.from_residual.result c.from_residual.ensures.1 in
+    rw (p.1, p.2) (by-places c.args.c c.coord.ensures (sym c.get_neighbors.ensures ∙ c.in_err-places.was))
 
-pub returns-then-has_neighbor_room : goal.returns-then-has_neighbor_room
-unfolding near_cells neighbors_of
-returns-then-has_neighbor_room c =
-    let place = c.coord-place in
-    let cells = c.plain14-cells.ensures ∙ (λ i. map (plain_at (c.frame.ensures i) (c.resolution.ensures i)) ((c.neighbor_places.ensures ∙ ap neighbor_places place.ensures) i)) in
-    (λ i. record { outcome = Answered; cells = cells i })
-    ∙ spread-room no_neighbors place.ensures has_neighbor_room (listed c.args.c) c.parity_of-parity.ensures c.in-Is.in-Is-own.keys2 c.has_neighbor_room.ensures c.if-has_neighbor_room.true
-
-pub returns-else-has_neighbor_room : goal.returns-else-has_neighbor_room
-unfolding neighbors_of
-returns-else-has_neighbor_room c =
-    c.no_neighbors-else-has_neighbor_room.ensures
-    ∙ spread-room no_neighbors c.coord-place.ensures has_neighbor_room (listed c.args.c) c.parity_of-parity.ensures c.in-Is.in-Is-own.keys2 c.has_neighbor_room.ensures c.if-has_neighbor_room.false
+pub returns : goal.returns
+returns c =
+    (λ i. Ok ((c.plain_all.ensures ∙ (λ j. map (plain_at (c.frame.ensures j) (c.resolution.ensures j)) c.in_ok-places.places)) i))
+    ∙ by-places c.args.c c.coord.ensures (sym c.get_neighbors.ensures ∙ c.in_ok-places.was)

@@ -1,7 +1,7 @@
 -- `root::square_root` meets its contract: each way out by what its tests say of x. A constant is its bit pattern in MIR, which `of_bits` computes.
+use Rattle.std.specs.Prelude.{Ok}
 use Rattle.std.proofs.Common.{◌≡◌, ℕ, ◌<◌, ◌≤◌, true, false, pos, sym, ap, ◌∙◌, subst}
 use lib.Ieee.{Float, binary64, of_bits, eq, of_int}
-use Rattle.root.specs.declared.Root.TheVariants.{Of}
 use Rattle.root.specs.Root.{root_of, root_whole}
 use Rattle.float.proofs.Laws.{so}
 use Rattle.root.proofs.Whole.{above_minus_one, cast-pos, root_below, none_below, root-above, is-big, too-big, is-nought, minus-nought, too_small}
@@ -20,7 +20,7 @@ pub returns-then-n-x : goal.returns-then-n-x
 unfolding of_bits
 returns-then-n-x c =
     let i = c.truncating_f64_to_u64-n.ensures in
-    ap (λ (y : Float). Of y) (c.whole_root.ensures ∙ ap root_whole i)
+    ap (λ (y : Float). Ok y) (c.whole_root.ensures ∙ ap root_whole i)
     ∙ sym (root_below c.args.x c.if-x.true c.if-x-2.true
     (subst (λ (k : ℕ). k < 9007199254740992) i c.if-n-lt9007199254740992.true)
     (subst (λ (k : ℕ). eq (of_int binary64 (pos k)) c.args.x ≡ true) i c.if-n-x.true))
@@ -29,7 +29,7 @@ pub returns-else-n-lt9007199254740992 : goal.returns-else-n-lt9007199254740992
 unfolding of_bits
 returns-else-n-lt9007199254740992 c =
     let i = c.truncating_f64_to_u64-n.ensures in
-    ap (λ (y : Float). Of y) (c.whole_root-else-n-lt9007199254740992.ensures ∙ ap root_whole i)
+    ap (λ (y : Float). Ok y) (c.whole_root-else-n-lt9007199254740992.ensures ∙ ap root_whole i)
     ∙ sym (root-above c.args.x (so c.well_formed.0.1) c.if-x.true c.if-x-2.true (subst (λ (k : ℕ). 9007199254740992 ≤ k) i c.if-n-lt9007199254740992.false))
 
 pub returns-then-x-3 : goal.returns-then-x-3
