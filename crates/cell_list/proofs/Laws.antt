@@ -1,5 +1,6 @@
 -- What follows of cells that are laid in a buffer: one more cell put before or behind them is a list that is longer by it, and the buffer is as long as before. And the two
 -- answers of a list: it fits, or it does not.
+use Rattle.std.specs.Prelude.{Ok, Err}
 use mathlib.Core.Path.{◌≡◌, refl, sym, ap, ap₂, ◌∙◌}
 use mathlib.Core.List.{List, [], ◌∷◌, ◌++◌, flat_map, append_assoc, append-nil}
 use Prim.Native.Nat.{ℕ, ◌+◌, ◌*◌, ◌≤◌, ◌<◌}
@@ -15,7 +16,6 @@ use Rattle.cell.specs.Bytes.{cell_bytes}
 use Rattle.cell.proofs.Stored.{length-cell_bytes}
 use Rattle.general.proofs.Lists.{flat_map-append}
 use Rattle.general.specs.Changed.{changed}
-use Rattle.refusal.specs.declared.CountAnswer.TheVariants as count
 use Rattle.cell_list.specs.Listing.{cells, room_in, cells_laid, listed_in}
 use Rattle.cell_list.proofs.Listing.{laid_from}
 use Rattle.cell_list.specs.Inner.Listing.{cell_put}
@@ -99,9 +99,9 @@ cell-first c l = ap (λ (m : List ℕ). cell_put m 0 c) (sym (no-cells-laid l)) 
 -- ---- the answer
 
 -- a list that fits
-pub cells-listed : (cs : List Cell) (l : List ℕ) → length cs ≤ room_in l → listed_in (cells cs) l ≡ changed (count.Cells (length cs)) (cells_laid cs l)
+pub cells-listed : (cs : List Cell) (l : List ℕ) → length cs ≤ room_in l → listed_in (cells cs) l ≡ changed (Ok (length cs)) (cells_laid cs l)
 cells-listed cs l h = rw (le-leb (length cs) (room_in l) h)
 
 -- and one that does not
-pub cells-refused : (cs : List Cell) (l : List ℕ) → room_in l < length cs → listed_in (cells cs) l ≡ changed (count.Refused (NoRoom room.Output)) l
+pub cells-refused : (cs : List Cell) (l : List ℕ) → room_in l < length cs → listed_in (cells cs) l ≡ changed (Err (NoRoom room.Output)) l
 cells-refused cs l h = rw (lt-leb (length cs) (room_in l) h)

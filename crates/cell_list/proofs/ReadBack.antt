@@ -1,4 +1,5 @@
 -- Cells that are laid in a buffer are read back from it: a list of bytes that holds them, one after the other, has these cells.
+use Rattle.std.specs.Prelude.{Ok, Err}
 use mathlib.Core.Path.{◌≡◌, refl, sym, ap, ◌∙◌}
 use mathlib.Core.Bool.{Bool, true, false, cond}
 use mathlib.Core.List.{List, [], ◌∷◌, ◌++◌, flat_map}
@@ -13,7 +14,6 @@ use Rattle.refusal.specs.declared.Refusal.TheVariants.{BadList}
 use Rattle.words.specs.Word.{Bytes, big, bytes_of, word}
 use Rattle.words.proofs.Laws.{bytes-append, bytes-zeros, bytes-bytes_of, word-append-left, word-drop}
 use Rattle.general.specs.Each.{Each}
-use Rattle.cell.specs.declared.CellAnswer.TheVariants as cell
 use Rattle.cell.specs.Bytes.{cell_at, cell_bytes, from_bytes_of}
 use Rattle.cell.specs.Lists.{cells_from, cells_of}
 use Rattle.cell.specs.Terms.{Words}
@@ -23,11 +23,11 @@ use Rattle.cell_list.specs.Listing.{cells_laid}
 use Rattle.cell_list.proofs.Laws.{length-cells-bytes}
 
 -- bytes that are taken for a cell are sixteen, and the cell is theirs
-pub read_cell : (l : List ℕ) (c : Cell) → from_bytes_of l ≡ cell.Is c → (length l ≡ 16) × (cell_at l 0 ≡ c)
+pub read_cell : (l : List ℕ) (c : Cell) → from_bytes_of l ≡ Ok c → (length l ≡ 16) × (cell_at l 0 ≡ c)
 unfolding from_bytes_of
 read_cell l c = by_length (eqb (length l) 16) (eqb-true (length l) 16)
   where
-    by_length : (t : Bool) → (t ≡ true → length l ≡ 16) → cond t (cell.Is (cell_at l 0)) (cell.Refused BadList) ≡ cell.Is c → (length l ≡ 16) × (cell_at l 0 ≡ c)
+    by_length : (t : Bool) → (t ≡ true → length l ≡ 16) → cond t (Ok (cell_at l 0)) (Err BadList) ≡ Ok c → (length l ≡ 16) × (cell_at l 0 ≡ c)
     by_length true f e = (f refl, cc)
     by_length false f e = absurd (let z : ◌≡◌ {A = ℕ} 0 1 = cc in omega arith)
 
@@ -36,7 +36,7 @@ cell-back : (c : Cell) (m : List ℕ) → Words c → cell_at (cell_bytes c ++ m
 unfolding cell_at
 cell-back c m words =
     let long = length-cell_bytes c in
-    let own : cell.Is (cell_at (cell_bytes c) 0) ≡ cell.Is c = sym (sixteen-bytes (cell_bytes c) long) ∙ bytes-read-back c words in
+    let own : Ok (cell_at (cell_bytes c) 0) ≡ Ok c = sym (sixteen-bytes (cell_bytes c) long) ∙ bytes-read-back c words in
     let high = word-append-left big 8 (cell_bytes c) m 0 (omega arith) in
     let low = word-append-left big 8 (cell_bytes c) m 8 (omega arith) in
     (λ i. record { high = high i; low = low i }) ∙ (cc)

@@ -1,5 +1,6 @@
 -- What follows from the definitions of the known cells: how their list grows, what stands at each place of it, and that a search for a cell says whether it is a member.
 -- `List.Memᴰ c cells` says that c is a member of cells: it is a place at which cells has c.
+use Rattle.std.specs.Prelude.{Some, None}
 use Rattle.std.proofs.Common.{◌≡◌, ℕ, zero, suc, ◌+◌, ◌*◌, ◌/◌, ◌<◌, ◌≤◌, ◌⊎◌, List, [], ◌∷◌, ◌++◌, length, get_or, sym, refl, ap, ◌∙◌, subst, ap₂, inl, inr, div-lt_iff_lt-mul, mul-lt-mul_of_pos_right, arith}
 use mathlib.Core.List.Memᴰ
 use mathlib.Core.List.{Memᴰ}
@@ -8,7 +9,6 @@ use Rattle.refusal.specs.declared.Cell.{Cell}
 use Rattle.words.specs.Word.{Order, little, word, stored, Bytes}
 use Rattle.words.proofs.Laws.{word_lt, length-stored, word-stored-apart}
 use Rattle.cell.specs.Terms.{Words}
-use Rattle.known.specs.declared.Found.TheVariants.{At, Nowhere}
 use Rattle.known.specs.Inner.Known.{mixed_of, bucket_of, record_offset, cell_in, link_in, head_in, cells_in, known_cells, Known, Added}
 use Rattle.known.proofs.ChainLaws.{chain_same}
 use Rattle.known.specs.Inner.Found.{Right}
@@ -149,13 +149,13 @@ member-words l room i n c bytes m =
     subst Words r.2 (cell-words l room (i + r.0) bytes)
 
 -- a record that was found has the cell, so the cell is known
-pub found-member : (l : List ℕ) (room n : ℕ) (c : Cell) (i : ℕ) → Right l room n c (At i) → Memᴰ c (known_cells l room n)
+pub found-member : (l : List ℕ) (room n : ℕ) (c : Cell) (i : ℕ) → Right l room n c (Some i) → Memᴰ c (known_cells l room n)
 found-member l room n c i right =
     let place : 0 + i ≡ i = omega arith in
     record-member l room 0 n i c right.0 (ap (cell_in l room) place ∙ right.1)
 
 -- where none was found, it is not
-pub nowhere-member : (l : List ℕ) (room n : ℕ) (c : Cell) → Right l room n c Nowhere → Memᴰ c (known_cells l room n) → ⊥
+pub nowhere-member : (l : List ℕ) (room n : ℕ) (c : Cell) → Right l room n c None → Memᴰ c (known_cells l room n) → ⊥
 nowhere-member l room n c right m =
     let r = member-record l room 0 n c m in
     let place : r.0 ≡ 0 + r.0 = omega arith in

@@ -1,4 +1,5 @@
 -- Where the bytes hold chains, what is sought is found exactly where it is.
+use Rattle.std.specs.Prelude.{Option}
 use Rattle.std.proofs.Common.{◌≡◌, ℕ, zero, suc, ◌-◌, ◌<◌, ◌≤◌, Bool, true, false, List, sym, refl, subst, arith}
 use native.Mathlib.Decide.{ℕ_discrete}
 use Rattle.refusal.specs.declared.Cell.{Cell}
@@ -6,7 +7,6 @@ use Rattle.words.specs.Word.{Bytes}
 use Rattle.cell.specs.Cell.{same_cell}
 use Rattle.cell.specs.Terms.{Words}
 use Rattle.known.specs.Inner.Known.{Known, bucket_of, cell_in, head_in, link_in}
-use Rattle.known.specs.declared.Found.{Found}
 use Rattle.known.specs.Inner.Found.{Right}
 use Rattle.known.specs.Inner.Seek.{seek_in, find_in}
 use Rattle.known.proofs.Seek.{seek-end, seek-here, seek-on}
@@ -40,5 +40,5 @@ module _ (l : List ℕ) (room n : ℕ) (c : Cell) (known : Known l room n) (byte
       let walked = walked_none l room n c known (bucket_of c room) (head_in l (bucket_of c room)) refl refl in
       seek-right (suc n) n (head_in l (bucket_of c room)) (omega arith) (omega arith) walked.bound walked
 
-  pub found-by : (r : Found) → r ≡ find_in l room n c → Right l room n c r
+  pub found-by : (r : Option ℕ) → r ≡ find_in l room n c → Right l room n c r
   found-by r e = subst (Right l room n c) (sym e) found_right

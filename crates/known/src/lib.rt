@@ -21,13 +21,6 @@ pub const RECORD_WIDTH: usize = 40;
 // In a record: the link, behind the cell.
 const LINK_OFFSET: usize = 16;
 
-// Where a cell stands among the known ones.
-#[derive(Clone, Copy)]
-pub enum Found {
-    At(usize),
-    Nowhere,
-}
-
 // One word of 32 bits from a cell's four. Cells that stand together fall apart: each factor is 2^32 over a power of the root of a^4 = a + 1, so that
 // no small steps of x, y and z add up to nearly nothing.
 fn mixed(c: Cell) -> u64
@@ -63,7 +56,7 @@ pub fn cell_at(workspace: &[u8], room: usize, i: usize) -> Cell
 }
 
 // Along one chain, from its last record back to its first. A head above the count, or a link that does not fall, ends the chain.
-pub fn find(workspace: &[u8], room: usize, count: usize, c: Cell) -> Found
+pub fn find(workspace: &[u8], room: usize, count: usize, c: Cell) -> Option<usize>
     requires roomy { Roomy workspace.now room }
     requires count_le_room { count ≤ room }
     ensures { result ≡ find_in workspace.now room count c }
@@ -74,10 +67,10 @@ pub fn find(workspace: &[u8], room: usize, count: usize, c: Cell) -> Found
         // One test for both: a link of 0, which is none, is far above the bound.
         let i = link.wrapping_sub(1);
         if i >= bound {
-            return Found::Nowhere;
+            return None;
         }
         if cell::same(cell_at(workspace, room, i), c) {
-            return Found::At(i);
+            return Some(i);
         }
         bound = i;
         link = words::read32_little(

@@ -1,5 +1,6 @@
 -- The checker's judgement on a list of cells says what Accepted.antt says: it adds the distance for each step, it takes a cell for shut exactly where the rule avoids blocked cells and the
 -- cell is blocked, and it walks a list that leads to the goal to its end. Then what is true of every cell that such a list enters.
+use Rattle.std.specs.Prelude.{Ok}
 use mathlib.Core.Path.{◌≡◌, refl, sym, ap, ap₂, subst, ◌∙◌}
 use mathlib.Core.Bool.{Bool, true, false, cond, ◌&&◌, beq, false≢true}
 use mathlib.Core.List.Memᴰ
@@ -20,7 +21,6 @@ use Rattle.general.proofs.Tests.{both}
 use Rattle.lattice.proofs.SignsLaws.{either, odd-sum}
 use Rattle.general.specs.Each.{Each}
 use Rattle.distance.specs.Distance.{distance_of}
-use Rattle.distance.specs.declared.DistanceAnswer.TheVariants.{Is}
 use Rattle.distance.specs.Steps.{root_three, two_float}
 use Rattle.distance.proofs.StepsLaws.{step-costs}
 use Rattle.cell.specs.Cell.{frame_of, resolution_of, x_of, coord_of, same_cell}
@@ -41,7 +41,7 @@ cost-turned false true = refl
 cost-turned false false = refl
 
 -- what is added for a step is how far the two cells are apart
-pub cost-is-distance : (a b : Cell) → Step a b → distance_of (coord_of a) (coord_of b) ≡ Is (cost_between a b)
+pub cost-is-distance : (a b : Cell) → Step a b → distance_of (coord_of a) (coord_of b) ≡ Ok (cost_between a b)
 unfolding cost_between coord_of neighbor_places
 cost-is-distance a b step =
     let r = Memᴰ.of_map (moved (coord_of a)) neighbor_steps step.near in
@@ -49,7 +49,7 @@ cost-is-distance a b step =
     let odd : is_odd (x_of b) ≡ either (is_odd (x_of a)) (is_odd d.x) = ap (λ (c : Coord). is_odd c.x) (sym r.2) ∙ odd-sum (x_of a) d.x in
     ap (distance_of (coord_of a)) (sym r.2)
     ∙ step-costs (coord_of a) d (point-parity (coord_of a) step.one-parity) r.1
-    ∙ ap Is (cost-turned (is_odd (x_of a)) (is_odd d.x) ∙ ap (λ (t : Bool). cond (beq (is_odd (x_of a)) t) two_float root_three) (sym odd))
+    ∙ ap Ok (cost-turned (is_odd (x_of a)) (is_odd d.x) ∙ ap (λ (t : Bool). cond (beq (is_odd (x_of a)) t) two_float root_three) (sym odd))
 
 -- ---- which cells are shut
 

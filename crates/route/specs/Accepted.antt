@@ -1,12 +1,11 @@
 -- What an accepted route is, in words of the domain and apart from the checker's own definition: demand 3, of cells and of the bytes that a call is handed. Definitions only.
-use Rattle.std.specs.Prelude.{◌≡◌, true, false, ℕ, ◌%◌, ◌<◌, pos, Float, length}
+use Rattle.std.specs.Prelude.{◌≡◌, true, false, ℕ, ◌%◌, ◌<◌, pos, Float, length, Ok}
 use mathlib.Core.List.{List, [], ◌∷◌, Memᴰ}
 use Rattle.std.specs.Float.{fin, binary64}
 use Rattle.std.specs.Float.Ieee.{add, to_bits}
 use Rattle.refusal.specs.declared.Cell.{Cell}
 use Rattle.lattice.specs.Lattice.{is_lattice_point, neighbor_places}
 use Rattle.distance.specs.Distance.{distance_of}
-use Rattle.distance.specs.declared.DistanceAnswer.TheVariants.{Is}
 use Rattle.cell.specs.Cell.{frame_of, resolution_of, coord_of, is_plain}
 use Rattle.cell.specs.Bytes.{cell_at, cell_width}
 use Rattle.cell.specs.Lists.{cells_of}
@@ -30,7 +29,7 @@ pub record Blocked (rows : List Row) (c : Cell) : Type 0 where
 -- a route of one cell, or a route that begins with a step; each step adds its distance to what was paid so far, rounded once
 pub data Leads (avoiding : Type 0) (rows : List Row) : Cell → Float → List Cell → Cell → Float → Type 0 where
   here : {a : Cell} {s : Float} → Leads avoiding rows a s [] a s
-  onward : {a b goal : Cell} {s stretch total : Float} {cells : List Cell} → Step a b → (avoiding → Blocked rows b → ⊥) → distance_of (coord_of a) (coord_of b) ≡ Is stretch
+  onward : {a b goal : Cell} {s stretch total : Float} {cells : List Cell} → Step a b → (avoiding → Blocked rows b → ⊥) → distance_of (coord_of a) (coord_of b) ≡ Ok stretch
       → Leads avoiding rows b (add binary64 s stretch) cells goal total → Leads avoiding rows a s (b ∷ cells) goal total
 
 -- a list that begins at the start and leads to the goal, and whose claimed bits are those of its cost from 0.0

@@ -11,7 +11,6 @@ ghost use Rattle.route.specs.Inner.Walks.{walk_of};
 ghost use Rattle.cell.specs.Bytes.{cell_width};
 
 use refusal::{Cell, Coord, Refusal};
-use table::Position;
 
 // The square of the difference on one axis; 5 stands for any above 4.
 fn short_square(a: i32, b: i32) -> u32
@@ -64,10 +63,8 @@ pub fn is_shut(flags: &[u8], count: usize, rule: u32, c: Cell) -> bool
     if rule == 1 {
         let place = table::find(flags, table::FLAG_WIDTH, count, c);
         match place {
-            Position::At(i) => table::flags::is_blocked(
-                table::kept_at(flags, table::FLAG_WIDTH, i) as u32,
-            ),
-            Position::Before(_i) => false,
+            Ok(i) => table::flags::is_blocked(table::kept_at(flags, table::FLAG_WIDTH, i) as u32),
+            Err(_i) => false,
         }
     } else {
         false

@@ -1,4 +1,5 @@
 -- What follows of records that ascend, by their indices.
+use Rattle.std.specs.Prelude.{Result, Ok, Err}
 use mathlib.Core.Path.{◌≡◌, refl, sym, ap, ap₂, subst, ◌∙◌}
 use mathlib.Core.Bool.{Bool, true, false, cond, ◌&&◌, true≢false}
 use mathlib.Core.List.{List, [], ◌∷◌, ◌++◌}
@@ -19,8 +20,6 @@ use Rattle.cell.specs.Bytes.{cell_at}
 use Rattle.cell.proofs.Laws.{less-transitive}
 use Rattle.general.proofs.Tests.{both}
 use Rattle.table.specs.Records.{most_cells, room_for, row_at, rows_from, rows_of, ascending, first_fall, is_sound, held, nothing, held_of, Row}
-use Rattle.table.specs.declared.Position.{Position}
-use Rattle.table.specs.declared.Position.TheVariants.{At, Before}
 use Rattle.table.specs.Inner.Places.{Stands}
 use Rattle.table.specs.Terms.{FallsAt}
 use Rattle.table.proofs.Bytes.{length-rows_from}
@@ -207,7 +206,7 @@ module _ (w : ℕ) (l : List ℕ) (c : Cell) where
   none-held (suc n) i h = rw (h i (omega arith)) (none-held n (suc i) (λ k b. h k (omega arith)))
 
   -- where the search finds a cell, what is kept there is what the layer holds of it
-  pub find-is-held : (n i : ℕ) → is_sound w l n ≡ true → Stands w l n c (At i) → held_of c (rows_of w l n) ≡ held (row_at w l i).kept
+  pub find-is-held : (n i : ℕ) → is_sound w l n ≡ true → Stands w l n c (Ok i) → held_of c (rows_of w l n) ≡ held (row_at w l i).kept
   unfolding rows_of Stands
   find-is-held n i sound s = first-held n 0 i (omega arith) (omega (arith, s.within)) differs s.same
     where
@@ -219,7 +218,7 @@ module _ (w : ℕ) (l : List ℕ) (c : Cell) where
           (λ q. omega (arith, eqb-true (raw_of here) (raw_of c) s.same, ltb-true (raw_of d) (raw_of here) (sound-less w l n sound i j h s.within)))
 
   -- where it does not, the layer holds nothing of it
-  pub find-is-nothing : (n i : ℕ) → Stands w l n c (Before i) → held_of c (rows_of w l n) ≡ nothing
+  pub find-is-nothing : (n i : ℕ) → Stands w l n c (Err i) → held_of c (rows_of w l n) ≡ nothing
   unfolding rows_of Stands
   find-is-nothing n i s = none-held n 0 (λ k h. ne_eqb (raw_of (row_at w l k).cell) (raw_of c) (differs k (omega arith) (ltb k i) refl))
     where
@@ -228,18 +227,18 @@ module _ (w : ℕ) (l : List ℕ) (c : Cell) where
       differs k h false e q = omega (arith, ltb-true (raw_of c) (raw_of (row_at w l k).cell) (s.above k (ltb-false k i e) h))
 
   -- a record that was found lies within the table
-  at-within : (n i : ℕ) → is_sound w l n ≡ true → Stands w l n c (At i) → w * (i + 1) ≤ length l
+  at-within : (n i : ℕ) → is_sound w l n ≡ true → Stands w l n c (Ok i) → w * (i + 1) ≤ length l
   unfolding Stands
   at-within n i e s =
       let q : w * (i + 1) ≡ w * suc i = ap (λ (j : ℕ). w * j) (add-one i) in
       omega (arith, q, mul-suc w i, row_within w l n i (sound-room w l n e) s.within)
 
-  pub found_within : (n i : ℕ) {p : Position} → is_sound w l n ≡ true → Stands w l n c p → p ≡ At i → w * (i + 1) ≤ length l
+  pub found_within : (n i : ℕ) {p : Result ℕ ℕ} → is_sound w l n ≡ true → Stands w l n c p → p ≡ Ok i → w * (i + 1) ≤ length l
   found_within n i e s q = at-within n i e (subst (Stands w l n c) q s)
 
   -- what the layer holds of the cell, by the search's answer and what was read there
-  pub found-held : (n i : ℕ) {p : Position} {k : ℕ} → is_sound w l n ≡ true → Stands w l n c p → p ≡ At i → k ≡ (row_at w l i).kept → held_of c (rows_of w l n) ≡ held k
+  pub found-held : (n i : ℕ) {p : Result ℕ ℕ} {k : ℕ} → is_sound w l n ≡ true → Stands w l n c p → p ≡ Ok i → k ≡ (row_at w l i).kept → held_of c (rows_of w l n) ≡ held k
   found-held n i e s q r = find-is-held n i e (subst (Stands w l n c) q s) ∙ ap held (sym r)
 
-  pub missing-held : (n i : ℕ) {p : Position} → Stands w l n c p → p ≡ Before i → held_of c (rows_of w l n) ≡ nothing
+  pub missing-held : (n i : ℕ) {p : Result ℕ ℕ} → Stands w l n c p → p ≡ Err i → held_of c (rows_of w l n) ≡ nothing
   missing-held n i s q = find-is-nothing n i (subst (Stands w l n c) q s)

@@ -1,4 +1,5 @@
 -- Two answers that meet a contract agree, and so does what they leave in the memory that was lent to them.
+use Rattle.std.specs.Prelude.{Result, Ok, Err}
 use mathlib.Core.Path.{◌≡◌, refl, ap, sym, ◌∙◌}
 use mathlib.Core.Bool.{Bool, true, false}
 use mathlib.Core.List.{List}
@@ -10,8 +11,6 @@ use borrow.Author.Tests.{ltb-true, ltb-false, eqb-true}
 use Rattle.general.specs.OneAnswer.{OneAnswer, OneExit}
 use Rattle.refusal.specs.declared.Cell.{Cell}
 use Rattle.refusal.specs.Refusals.{raw_of}
-use Rattle.table.specs.declared.Position.{Position}
-use Rattle.table.specs.declared.Position.TheVariants.{At, Before}
 use Rattle.table.specs.Records.{row_at, is_sound}
 use Rattle.table.specs.Inner.Places.{IsAt, GoesBefore, Stands}
 use Rattle.table.proofs.Laws.{sound-less}
@@ -57,12 +56,12 @@ module _ (w : ℕ) (l : List ℕ) (n : ℕ) (c : Cell) where
       let here = (row_at w l i).cell in
       omega (arith, ltb-true (raw_of here) (raw_of c) (t.below i h), ltb-true (raw_of c) (raw_of here) (s.above i (omega arith) (omega (arith, t.within))))
 
-  one_place : is_sound w l n ≡ true → (p q : Position) → Stands w l n c p → Stands w l n c q → p ≡ q
+  one_place : is_sound w l n ≡ true → (p q : Result ℕ ℕ) → Stands w l n c p → Stands w l n c q → p ≡ q
   unfolding Stands
-  one_place sound (At i) (At j) s t = ap At (neither i j (not-twice sound i j s t) (not-twice sound j i t s))
-  one_place sound (At i) (Before j) s t = absurd (not-both i j s t)
-  one_place sound (Before i) (At j) s t = absurd (not-both j i t s)
-  one_place sound (Before i) (Before j) s t = ap Before (neither i j (not-before-two i j s t) (not-before-two j i t s))
+  one_place sound (Ok i) (Ok j) s t = ap Ok (neither i j (not-twice sound i j s t) (not-twice sound j i t s))
+  one_place sound (Ok i) (Err j) s t = absurd (not-both i j s t)
+  one_place sound (Err i) (Ok j) s t = absurd (not-both j i t s)
+  one_place sound (Err i) (Err j) s t = ap Err (neither i j (not-before-two i j s t) (not-before-two j i t s))
 
 -- at arguments that meet what `find` requires: the table is sound
 pub find-one : OneAnswer 1 here.find.Kinds.ps here.find.Kinds.r (λ κs a z e. here.find.Reads.Pre κs a × here.find.Reads.Post κs a z e)

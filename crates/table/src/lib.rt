@@ -12,13 +12,6 @@ pub mod records;
 
 use refusal::{Cell, Refusal};
 
-// Where a cell stands among the records, or where it would go.
-#[derive(Clone, Copy)]
-pub enum Position {
-    At(usize),
-    Before(usize),
-}
-
 // The bytes of a flag record: a cell and 32 bits.
 pub const FLAG_WIDTH: usize = 20;
 
@@ -70,7 +63,7 @@ pub fn is_sound(table: &[u8], width: usize, count: usize) -> bool
 }
 
 // A cell's place among the records of a sound layer, by halves.
-pub fn find(table: &[u8], width: usize, count: usize, c: Cell) -> Position
+pub fn find(table: &[u8], width: usize, count: usize, c: Cell) -> Result<usize, usize>
     requires wide { Wide width }
     requires count_value { is_sound width table.now count ≡ true }
     ensures { Stands width table.now count c result }
@@ -81,7 +74,7 @@ pub fn find(table: &[u8], width: usize, count: usize, c: Cell) -> Position
         let middle = low + (high - low) / 2;
         let here = cell::read_at(table, width * middle);
         if cell::same(here, c) {
-            return Position::At(middle);
+            return Ok(middle);
         }
         if cell::less(here, c) {
             low = middle + 1;
@@ -89,7 +82,7 @@ pub fn find(table: &[u8], width: usize, count: usize, c: Cell) -> Position
             high = middle;
         }
     }
-    Position::Before(low)
+    Err(low)
 }
 
 // What is kept in a record: 32 bits where it has 20 bytes, 64 where it has 24.

@@ -1,9 +1,7 @@
 -- Where a cell stands among the records of a table: "strictly ascending by id", in records of 20 or 24 bytes. For contracts inside. Definitions only.
-use Rattle.std.specs.Prelude.{◌≡◌, true, List, ℕ, ◌+◌, ◌*◌, ◌%◌, ◌≤◌, ◌<◌, length}
+use Rattle.std.specs.Prelude.{◌≡◌, true, List, ℕ, ◌+◌, ◌*◌, ◌%◌, ◌≤◌, ◌<◌, length, Result, Ok, Err}
 use Rattle.refusal.specs.declared.Cell.{Cell}
 use Rattle.cell.specs.Cell.{same_cell, less_cell}
-use Rattle.table.specs.declared.Position.{Position}
-use Rattle.table.specs.declared.Position.TheVariants.{At, Before}
 use Rattle.table.specs.Records.{row_at, room_for, flag_width, value_width}
 
 -- a record's width: a flag record's or a value record's
@@ -42,6 +40,6 @@ pub record GoesBefore (width : ℕ) (table : List ℕ) (n : ℕ) (c : Cell) (i :
   pub above : (k : ℕ) → i ≤ k → k < n → less_cell c (row_at width table k).cell ≡ true
 
 -- a cell's place among the first n records
-unfoldable pub Stands : ℕ → List ℕ → ℕ → Cell → Position → Type 0
-Stands width table n c (At i) = IsAt width table n c i
-Stands width table n c (Before i) = GoesBefore width table n c i
+unfoldable pub Stands : ℕ → List ℕ → ℕ → Cell → Result ℕ ℕ → Type 0
+Stands width table n c (Ok i) = IsAt width table n c i
+Stands width table n c (Err i) = GoesBefore width table n c i
