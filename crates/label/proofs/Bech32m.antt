@@ -15,8 +15,7 @@ use Rattle.general.proofs.Tests.{both, contrary, on_test, whether}
 use Rattle.refusal.specs.declared.LabelFault.TheVariants.{Padding}
 use Rattle.refusal.specs.declared.Refusal.{Refusal}
 use Rattle.refusal.specs.Refusals.{cell_of, number_of}
-use Rattle.cell.specs.declared.CellAnswer.TheVariants.{Is, Refused}
-use Rattle.std.specs.Prelude.{Some, None}
+use Rattle.std.specs.Prelude.{Some, None, Ok, Err}
 use Rattle.bech32m.specs.Text.{is_lower, is_upper, lowered, some_is}
 use Rattle.bech32m.specs.Checksum.{value_of, index_of, verified}
 use Rattle.bech32m.specs.Valid.{is_unknown, is_unprintable, is_separator, separator_of, is_mixed, is_valid_at, is_valid}
@@ -165,12 +164,12 @@ module _ (s : List ℕ) (l : IsLabel s) where
 -- ---- both
 
 past-padded : (bits : ℕ) → IsPast (padded bits)
-past-padded bits = on_test IsPast (eqb (bits % 4) 0) (Is (cell_of (bits / 4))) (mistyped Padding 30) (λ e. inl (cell_of (bits / 4), refl)) (λ e. inr refl)
+past-padded bits = on_test IsPast (eqb (bits % 4) 0) (Ok (cell_of (bits / 4))) (mistyped Padding 30) (λ e. inl (cell_of (bits / 4), refl)) (λ e. inr refl)
 
 pub label-is-bech32m : (s : List ℕ) → IsPast (read_of s) ↔ IsLabel s
 label-is-bech32m s =
     (λ p. taken-label s (read_taken s (⊎_elim (λ h. ap is_past h.1) (λ e. ap is_past e) p)), λ l. let t = label-taken s l in subst IsPast (sym (taken-read s t)) (past-padded (bits_in s)))
 
 -- refusal 35 is that of the padding alone
-pub padding-of-label : (s : List ℕ) (r : Refusal) → read_of s ≡ Refused r → number_of r ≡ 35 → IsLabel s
+pub padding-of-label : (s : List ℕ) (r : Refusal) → read_of s ≡ Err r → number_of r ≡ 35 → IsLabel s
 padding-of-label s r e n = taken-label s (read_taken s (ap is_past e ∙ eq-eqb (number_of r) 35 n))

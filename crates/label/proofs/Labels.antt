@@ -17,10 +17,9 @@ use Rattle.general.specs.Refuse.{refuse_unless}
 use Rattle.refusal.specs.declared.Cell.{Cell}
 use Rattle.refusal.specs.declared.LabelFault.TheVariants.{Padding}
 use Rattle.refusal.specs.Refusals.{raw_of, cell_of}
-use Rattle.cell.specs.declared.CellAnswer.TheVariants.{Is}
 use Rattle.cell.specs.Terms.{Words}
 use Rattle.cell.proofs.Laws.{cell-raw}
-use Rattle.std.specs.Prelude.{None}
+use Rattle.std.specs.Prelude.{None, Ok}
 use Rattle.bech32m.specs.Text.{is_lower, is_upper, lowered}
 use Rattle.bech32m.specs.Checksum.{character_of, value_of, digits, number_from, verified, created}
 use Rattle.bech32m.specs.Valid.{is_unknown}
@@ -70,20 +69,20 @@ module _ (c : Cell) where
 
 -- ---- the padding
 
-no-padding : (n : ℕ) → padded (n * 4) ≡ Is (cell_of n)
+no-padding : (n : ℕ) → padded (n * 4) ≡ Ok (cell_of n)
 no-padding n =
     let none : n * 4 % 4 ≡ 0 = omega arith in
     let rest : n * 4 / 4 ≡ n = omega arith in
-    ap (λ t. refuse_unless t (mistyped Padding 30) (Is (cell_of (n * 4 / 4)))) (eq-eqb (n * 4 % 4) 0 none) ∙ ap (λ (m : ℕ). Is (cell_of m)) rest
+    ap (λ t. refuse_unless t (mistyped Padding 30) (Ok (cell_of (n * 4 / 4)))) (eq-eqb (n * 4 % 4) 0 none) ∙ ap (λ (m : ℕ). Ok (cell_of m)) rest
 
 raw-cell : (n : ℕ) → raw_of (cell_of n) ≡ n
 unfolding raw_of
 raw-cell n = div-add-mod' n (2 ^ 64)
 
-padded-cell : (bits : ℕ) (c : Cell) → padded bits ≡ Is c → (cell_of (bits / 4) ≡ c) × (bits ≡ raw_of c * 4)
+padded-cell : (bits : ℕ) (c : Cell) → padded bits ≡ Ok c → (cell_of (bits / 4) ≡ c) × (bits ≡ raw_of c * 4)
 padded-cell bits c e = by-test (eqb (bits % 4) 0) refl e
   where
-    by-test : (t : Bool) → eqb (bits % 4) 0 ≡ t → refuse_unless t (mistyped Padding 30) (Is (cell_of (bits / 4))) ≡ Is c → (cell_of (bits / 4) ≡ c) × (bits ≡ raw_of c * 4)
+    by-test : (t : Bool) → eqb (bits % 4) 0 ≡ t → refuse_unless t (mistyped Padding 30) (Ok (cell_of (bits / 4))) ≡ Ok c → (cell_of (bits / 4) ≡ c) × (bits ≡ raw_of c * 4)
     by-test true f e =
         let same : cell_of (bits / 4) ≡ c = cc in
         let raw : raw_of c ≡ bits / 4 = ap raw_of (sym same) ∙ raw-cell (bits / 4) in
@@ -119,16 +118,16 @@ module _ (s : List ℕ) (c : Cell) (same : map lowered s ≡ label_of c) where
   bits-same w =
       ap (λ (l : List ℕ). number_from 0 (take data_width l)) values_same ∙ ap (number_from 0) (take_at (data_of c) (created prefix (data_of c)) data_width (length-data c)) ∙ data-bits c w
 
-  read-spelled : Words c → mixed_at s ≡ None → read_of s ≡ Is c
-  read-spelled w one = taken-read s (taken one) ∙ ap padded (bits-same w) ∙ no-padding (raw_of c) ∙ ap Is (cell-raw c w)
+  read-spelled : Words c → mixed_at s ≡ None → read_of s ≡ Ok c
+  read-spelled w one = taken-read s (taken one) ∙ ap padded (bits-same w) ∙ no-padding (raw_of c) ∙ ap Ok (cell-raw c w)
 
 -- in lower case, as it is written
-pub read-written : (c : Cell) → Words c → read_of (label_of c) ≡ Is c
+pub read-written : (c : Cell) → Words c → read_of (label_of c) ≡ Ok c
 unfolding label_of
 read-written c w = let l = label_of c in read-spelled l c (lower-string l (label-lower c)) w (all-lower l refl (label-lower c))
 
 -- and in upper case
-read_upper : (c : Cell) → Words c → read_of (map uppered (label_of c)) ≡ Is c
+read_upper : (c : Cell) → Words c → read_of (map uppered (label_of c)) ≡ Ok c
 unfolding label_of
 read_upper c w =
     let l = label_of c in
@@ -166,7 +165,7 @@ values-read s c t e =
     let checksum : six ≡ created prefix first = (created-exactly prefix first six long-six (each-drop (λ v. v < 32) data_width vs small)).0 (ap (verified prefix) whole ∙ t.right) in
     sym whole ∙ ap (λ (l : List ℕ). first ++ l) checksum ∙ ap (λ (l : List ℕ). l ++ created prefix l) data-same
 
-read-label : (s : List ℕ) (c : Cell) → read_of s ≡ Is c → Taken s × (map lowered s ≡ label_of c)
+read-label : (s : List ℕ) (c : Cell) → read_of s ≡ Ok c → Taken s × (map lowered s ≡ label_of c)
 unfolding label_of
 read-label s c e =
     let t = read_taken s (ap is_past e) in
@@ -174,7 +173,7 @@ read-label s c e =
     (t, spelled-by-values s t ∙ ap (λ (l : List ℕ). beginning ++ map character_of l) (values-read s c t bits))
 
 -- 26 values are no more than 128 bits and two, so the cell that is read is of two words
-pub words-read : (s : List ℕ) (c : Cell) → read_of s ≡ Is c → Words c
+pub words-read : (s : List ℕ) (c : Cell) → read_of s ≡ Ok c → Words c
 unfolding bits_in
 words-read s c e =
     let t = read_taken s (ap is_past e) in
@@ -185,7 +184,7 @@ words-read s c e =
     (record { high_word = (div-lt_iff_lt-mul {k = 2 ^ 64} {y = 2 ^ 64} (lit< tt)).1 bits; low-word = mod-lt (bits_in s / 4) (lit< tt) })
 
 -- a cell has one label, in either case
-pub one_label : (s : List ℕ) (c : Cell) → Words c → (read_of s ≡ Is c) ↔ ((s ≡ label_of c) ⊎ (s ≡ map uppered (label_of c)))
+pub one_label : (s : List ℕ) (c : Cell) → Words c → (read_of s ≡ Ok c) ↔ ((s ≡ label_of c) ⊎ (s ≡ map uppered (label_of c)))
 one_label s c w = (λ e. only (read-label s c e), ⊎_elim (λ h. ap read_of h ∙ read-written c w) (λ h. ap read_of h ∙ read_upper c w))
   where
     only : Taken s × (map lowered s ≡ label_of c) → (s ≡ label_of c) ⊎ (s ≡ map uppered (label_of c))

@@ -7,15 +7,15 @@ use native.Mathlib.Omega.{arith}
 use borrow.Author.Tests.{eqb-true, eq-eqb}
 use lib.Dec.{eqb}
 use lib.ListN.{length, take, drop}
+use Rattle.refusal.specs.declared.Cell.{Cell}
+use Rattle.refusal.specs.declared.Refusal.{Refusal}
 use Rattle.general.specs.Each.{Each}
 use Rattle.general.specs.Refuse.{refuse_unless}
 use Rattle.general.proofs.Tests.{contrary}
 use Rattle.refusal.specs.declared.LabelFault.{LabelFault}
 use Rattle.refusal.specs.declared.LabelFault.TheVariants.{Prefix, MixedCase, Character, Length, Checksum, Padding}
 use Rattle.refusal.specs.Refusals.{cell_of, row_of}
-use Rattle.cell.specs.declared.CellAnswer.{CellAnswer}
-use Rattle.cell.specs.declared.CellAnswer.TheVariants.{Is, Refused}
-use Rattle.std.specs.Prelude.{Option, Some, None}
+use Rattle.std.specs.Prelude.{Option, Some, None, Result, Ok, Err}
 use Rattle.bech32m.specs.Text.{lowered}
 use Rattle.bech32m.specs.Checksum.{value_of, verified}
 use Rattle.bech32m.specs.Valid.{is_unknown}
@@ -61,8 +61,8 @@ pub values-small : (s : List ℕ) → Taken s → Each (λ v. v < 32) (values_in
 values-small s t = each_map value_of (λ b. is_unknown b ≡ false) (λ v. v < 32) known-value (drop 5 s) t.known
 
 -- the answer past them
-abbrev pub padded : ℕ → CellAnswer
-padded bits = refuse_unless (eqb (bits % 4) 0) (mistyped Padding 30) (Is (cell_of (bits / 4)))
+abbrev pub padded : ℕ → Result Cell Refusal
+padded bits = refuse_unless (eqb (bits % 4) 0) (mistyped Padding 30) (Ok (cell_of (bits / 4)))
 
 pub taken-read : (s : List ℕ) → Taken s → read_of s ≡ padded (bits_in s)
 unfolding read_of read_values unknown_at
@@ -74,15 +74,15 @@ taken-read s t =
     ∙ ap (λ b. refuse_unless b (mistyped Checksum (length s)) (padded (bits_in s))) t.right
 
 -- an answer past them: a cell, or refusal 35
-abbrev pub is_past : CellAnswer → Bool
-is_past (Is c) = true
-is_past (Refused r) = eqb (row_of r).number 35
+abbrev pub is_past : Result Cell Refusal → Bool
+is_past (Ok c) = true
+is_past (Err r) = eqb (row_of r).number 35
 
-past-place : (fault : LabelFault) (p : Option ℕ) (rest : CellAnswer) → ((k : ℕ) → is_past (mistyped fault k) ≡ false) → is_past (refuse_at fault p rest) ≡ true → (p ≡ None) × (is_past rest ≡ true)
+past-place : (fault : LabelFault) (p : Option ℕ) (rest : Result Cell Refusal) → ((k : ℕ) → is_past (mistyped fault k) ≡ false) → is_past (refuse_at fault p rest) ≡ true → (p ≡ None) × (is_past rest ≡ true)
 past-place fault (Some k) rest f e = contrary e (f k)
 past-place fault None rest f e = (refl, e)
 
-past-test : (t : Bool) (refusal rest : CellAnswer) → is_past refusal ≡ false → is_past (refuse_unless t refusal rest) ≡ true → (t ≡ true) × (is_past rest ≡ true)
+past-test : (t : Bool) (refusal rest : Result Cell Refusal) → is_past refusal ≡ false → is_past (refuse_unless t refusal rest) ≡ true → (t ≡ true) × (is_past rest ≡ true)
 past-test true refusal rest f e = (refl, e)
 past-test false refusal rest f e = contrary e f
 

@@ -1,14 +1,13 @@
 -- Cell labels on paper, document 02, [1]: "the `cx3d` strings of `to_bech32m` and `from_bech32m` in id.rs, by BIP 350 over the 16 big-endian bytes. A label is 37 characters, `cx3d1`
 -- first, compared without regard to case." Definitions only.
-use Rattle.std.specs.Prelude.{Bool, cond, List, [], ◌∷◌, ◌++◌, map, Option, Some, None, ℕ, ◌+◌, ◌*◌, ◌/◌, ◌%◌, eqb, length, get_or, take, drop}
+use Rattle.refusal.specs.declared.Refusal.{Refusal}
+use Rattle.std.specs.Prelude.{Bool, cond, List, [], ◌∷◌, ◌++◌, map, Option, Some, None, ℕ, ◌+◌, ◌*◌, ◌/◌, ◌%◌, eqb, length, get_or, take, drop, Result, Ok, Err}
 use Rattle.general.specs.Refuse.{refuse_unless}
 use Rattle.refusal.specs.declared.Cell.{Cell}
 use Rattle.refusal.specs.declared.LabelFault.{LabelFault}
 use Rattle.refusal.specs.declared.LabelFault.TheVariants.{Prefix, MixedCase, Character, Length, Checksum, Padding}
 use Rattle.refusal.specs.declared.Refusal.TheVariants.{BadLabel}
 use Rattle.refusal.specs.Refusals.{raw_of, cell_of}
-use Rattle.cell.specs.declared.CellAnswer.{CellAnswer}
-use Rattle.cell.specs.declared.CellAnswer.TheVariants.{Is, Refused}
 use Rattle.bech32m.specs.Text.{is_lower, is_upper, lowered, first_from}
 use Rattle.bech32m.specs.Checksum.{character_of, value_of, digits, number_from, created, verified, sum_from}
 use Rattle.bech32m.specs.Valid.{is_unknown}
@@ -73,25 +72,25 @@ unfolding number_from value_of
 bits_in s = number_from 0 (take data_width (values_in s))
 
 -- refused for this, at this place
-abbrev pub mistyped : LabelFault → ℕ → CellAnswer
-mistyped fault place = Refused (BadLabel (record { fault = fault; place = place }))
+abbrev pub mistyped : LabelFault → ℕ → Result Cell Refusal
+mistyped fault place = Err (BadLabel (record { fault = fault; place = place }))
 
 -- refused where there is such a place
-abbrev pub refuse_at : LabelFault → Option ℕ → CellAnswer → CellAnswer
+abbrev pub refuse_at : LabelFault → Option ℕ → Result Cell Refusal → Result Cell Refusal
 refuse_at fault (Some place) rest = mistyped fault place
 refuse_at fault None rest = rest
 
 -- "33 length, 34 checksum, 35 non-zero padding, in that order"; "the string's length for 33, 34", "35: place 30"
-unfoldable pub read_values : List ℕ → CellAnswer
+unfoldable pub read_values : List ℕ → Result Cell Refusal
 unfolding bits_in sum_from value_of
 read_values s =
     refuse_unless (eqb (length s) label_width) (mistyped Length (length s))
     (refuse_unless (verified prefix (values_in s)) (mistyped Checksum (length s))
     (refuse_unless (eqb (bits_in s % 4) 0) (mistyped Padding 30)
-    (Is (cell_of (bits_in s / 4)))))
+    (Ok (cell_of (bits_in s / 4)))))
 
 -- the cell of a label, or the first refusal
-unfoldable pub read_of : List ℕ → CellAnswer
+unfoldable pub read_of : List ℕ → Result Cell Refusal
 unfolding unlike_from mixed_at unknown_at read_values
 read_of s =
     refuse_at Prefix (unlike_from 0 beginning s)

@@ -1,9 +1,8 @@
 -- What theorems say of labels: letters in upper case, and what BIP 350 has to say of a label. Definitions only.
-use Rattle.std.specs.Prelude.{true, cond, List, map, Some, ◌⊎◌, ◌≡◌, ℕ, ◌-◌, length, take}
+use Rattle.refusal.specs.declared.Refusal.{Refusal}
+use Rattle.std.specs.Prelude.{true, cond, List, map, Some, ◌⊎◌, ◌≡◌, ℕ, ◌-◌, length, take, Result, Ok}
 use Rattle.refusal.specs.declared.Cell.{Cell}
 use Rattle.refusal.specs.declared.LabelFault.TheVariants.{Padding}
-use Rattle.cell.specs.declared.CellAnswer.{CellAnswer}
-use Rattle.cell.specs.declared.CellAnswer.TheVariants.{Is}
 use Rattle.bech32m.specs.Text.{is_lower, lowered}
 use Rattle.bech32m.specs.Valid.{separator_of, is_valid}
 use Rattle.label.specs.Label.{prefix, label_width, mistyped}
@@ -13,8 +12,8 @@ abbrev pub uppered : ℕ → ℕ
 uppered b = cond (is_lower b) (b - 32) b
 
 -- an answer that is past all tests but that of the padding, which is not BIP 350's: a cell, or the refusal for the padding
-abbrev pub IsPast : CellAnswer → Type 0
-IsPast a = ((c : Cell) × (a ≡ Is c)) ⊎ (a ≡ mistyped Padding 30)
+abbrev pub IsPast : Result Cell Refusal → Type 0
+IsPast a = ((c : Cell) × (a ≡ Ok c)) ⊎ (a ≡ mistyped Padding 30)
 
 -- a valid string of BIP 350 with a label's length and prefix
 pub record IsLabel (s : List ℕ) : Type 0 where

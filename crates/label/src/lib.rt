@@ -6,7 +6,6 @@ ghost use Rattle.refusal.specs.Refusals.{raw_of, cell_of};
 ghost use Rattle.bech32m.specs.Checksum.{character_of};
 ghost use Rattle.label.specs.Label.{beginning, label_width, data_of, label_of, unlike_from, mixed_at, unknown_at, bits_in, mistyped, read_values, read_of};
 
-use cell::CellAnswer;
 use refusal::{Cell, LabelFault, Mistyped, Refusal};
 
 // The characters of a label.
@@ -22,6 +21,7 @@ const PREFIX: [u8; 4] = [99, 120, 51, 100];
 const BEGINNING: [u8; 5] = [99, 120, 51, 100, 49];
 
 // The 128 bits without the lowest three.
+#[tactic(auto, unfolding(refusal::specs::Refusals::raw_of))]
 fn eighth(c: Cell) -> Cell
     ensures { raw_of result ≡ raw_of c / 8 }
 {
@@ -32,6 +32,7 @@ fn eighth(c: Cell) -> Cell
 }
 
 // The 128 bits without the lowest five.
+#[tactic(auto, unfolding(refusal::specs::Refusals::raw_of))]
 fn thirty_second(c: Cell) -> Cell
     ensures { raw_of result ≡ raw_of c / 32 }
 {
@@ -100,10 +101,17 @@ fn mixed_at(text: &[u8]) -> Option<usize>
     bech32m::first_from(bech32m::is_lower, text, 0)
 }
 
-fn mistyped(fault: LabelFault, place: usize) -> CellAnswer
+// The first character behind the prefix that has no value.
+fn unknown_at(text: &[u8]) -> Option<usize>
+    ensures { result ≡ unknown_at text.now }
+{
+    bech32m::first_from(bech32m::is_unknown, text, 5)
+}
+
+fn mistyped(fault: LabelFault, place: usize) -> Result<Cell, Refusal>
     ensures { result ≡ mistyped fault place }
 {
-    CellAnswer::Refused(Refusal::BadLabel(Mistyped {
+    Err(Refusal::BadLabel(Mistyped {
         fault,
         place: place as u64,
     }))
@@ -144,7 +152,7 @@ fn cell_in(text: &[u8]) -> Cell
 }
 
 // Length, checksum and padding of a text whose characters are known, then its cell.
-fn read_values(text: &[u8]) -> CellAnswer
+fn read_values(text: &[u8]) -> Result<Cell, Refusal>
     requires { unknown_at text.now ≡ None }
     ensures { result ≡ read_values text.now }
 {
@@ -157,11 +165,12 @@ fn read_values(text: &[u8]) -> CellAnswer
     if bech32m::charset::value_of(text[30]) % 4 != 0 {
         return mistyped(LabelFault::Padding, 30);
     }
-    CellAnswer::Is(cell_in(text))
+    Ok(cell_in(text))
 }
 
 // The cell of a label in either case, or the first mistake with its place.
-pub fn from_bech32m(text: &[u8]) -> CellAnswer
+#[tactic(auto, unfolding(crate::specs::Label::read_of))]
+pub fn from_bech32m(text: &[u8]) -> Result<Cell, Refusal>
     ensures { result ≡ read_of text.now }
 {
     if let Some(i) = unlike_beginning(text) {
@@ -170,7 +179,7 @@ pub fn from_bech32m(text: &[u8]) -> CellAnswer
     if let Some(i) = mixed_at(text) {
         return mistyped(LabelFault::MixedCase, i);
     }
-    if let Some(i) = bech32m::first_from(bech32m::is_unknown, text, 5) {
+    if let Some(i) = unknown_at(text) {
         return mistyped(LabelFault::Character, i);
     }
     read_values(text)

@@ -6,10 +6,10 @@ use mathlib.Core.Path.{◌≡◌, sym, ap, ◌∙◌}
 use Prim.Native.Nat.{ℕ, ◌-◌, ◌/◌, ◌%◌}
 use lib.Dec.{eqb}
 use lib.ListN.{length, take, drop, get_or}
+use Rattle.std.specs.Prelude.{Ok}
 use Rattle.general.specs.Refuse.{refuse_unless}
 use Rattle.refusal.specs.declared.LabelFault.TheVariants.{Padding}
 use Rattle.refusal.specs.Refusals.{cell_of}
-use Rattle.cell.specs.declared.CellAnswer.TheVariants.{Is}
 use Rattle.bech32m.specs.Checksum.{value_of, verified}
 use Rattle.bech32m.proofs.Listed.{part-rest}
 use Rattle.label.specs.Label.{label_width, prefix, values_in, bits_in, mistyped, read_values}
@@ -23,7 +23,7 @@ sum_told text told e =
 
 -- past a right checksum the last value says whether there is padding
 padding-told : (text : List ℕ) {b : Bool} {v : ℕ} → length text ≡ label_width → verified prefix (values_in text) ≡ true → v ≡ value_of (get_or text 30 0) → eqb (v % 4) 0 ≡ b
-    → read_values text ≡ refuse_unless b (mistyped Padding 30) (Is (cell_of (bits_in text / 4)))
+    → read_values text ≡ refuse_unless b (mistyped Padding 30) (Ok (cell_of (bits_in text / 4)))
 unfolding read_values
 padding-told text long sum value e =
     let last = padding text long ∙ ap (λ (v : ℕ). v % 4) (sym value) in
@@ -42,4 +42,4 @@ pub returns-then-value_of-ne0 : goal.returns-then-value_of-ne0
 returns-then-value_of-ne0 c = c.mistyped-then-value_of-ne0.ensures ∙ sym (padding-told c.args.text.now c.if-text-ne-LABEL_WIDTH.false (sum_told c.args.text.now c.verify_characters.ensures c.if-not-verify_characters.false) c.value_of.ensures (ne_eqb _ _ c.if-value_of-ne0.true))
 
 pub returns : goal.returns
-returns c = ap Is c.cell_in.ensures ∙ sym (padding-told c.args.text.now c.if-text-ne-LABEL_WIDTH.false (sum_told c.args.text.now c.verify_characters.ensures c.if-not-verify_characters.false) c.value_of.ensures (eq-eqb _ _ c.if-value_of-ne0.false))
+returns c = ap Ok c.cell_in.ensures ∙ sym (padding-told c.args.text.now c.if-text-ne-LABEL_WIDTH.false (sum_told c.args.text.now c.verify_characters.ensures c.if-not-verify_characters.false) c.value_of.ensures (eq-eqb _ _ c.if-value_of-ne0.false))
