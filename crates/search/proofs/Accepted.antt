@@ -1,5 +1,8 @@
 -- What the search finds is a route from the start to the goal, a step from neighbour to neighbour each time: `found-leads`. So it is accepted by the route checker, with the same ends,
 -- rule and flags, at the cost that the search tells: `found-accepted`. What an accepted route is, the checker's `accepted-exactly` says.
+use Rattle.std.specs.Prelude.{Result, Ok, Err}
+use Rattle.lattice.specs.declared.Parity.{Parity}
+use Rattle.refusal.specs.declared.Refusal.{Refusal}
 use mathlib.Core.Path.{◌≡◌, refl, ap, subst, ◌∙◌}
 use mathlib.Core.Bool.{true}
 use mathlib.Core.List.{List, [], ◌∷◌, map}
@@ -9,8 +12,6 @@ use lib.Dec.{eqb}
 use borrow.Author.Tests.{eqb-true}
 use Rattle.refusal.specs.declared.Cell.{Cell}
 use Rattle.refusal.specs.Refusals.{raw_of, cell_of}
-use Rattle.lattice.specs.declared.ParityAnswer.{ParityAnswer}
-use Rattle.lattice.specs.declared.ParityAnswer.TheVariants as parity
 use Rattle.lattice.specs.Lattice.{parity_of}
 use Rattle.cell.specs.Cell.{coord_of}
 use Rattle.cell.specs.Terms.{Words}
@@ -48,11 +49,11 @@ module _ (s e : Cell) (known waiting limit rule : ℕ) (rows : List Row) (cells 
   flow-leads (going t) f g = absurd (let z : ◌≡◌ {A = ℕ} 0 1 = cc in omega arith)
   flow-leads (done r) f g = found-route plan Beside near-beside (pops_for known waiting) cells cost expansions (f ∙ ap done g)
 
-  between-leads : (p q : ParityAnswer) → found_between p q plan ≡ found cells cost expansions → Leading
+  between-leads : (p q : Result Parity Refusal) → found_between p q plan ≡ found cells cost expansions → Leading
   unfolding plan_of
-  between-leads (parity.Refused r) q f = absurd (let z : ◌≡◌ {A = ℕ} 0 1 = cc in omega arith)
-  between-leads (parity.Is p) (parity.Refused r) f = absurd (let z : ◌≡◌ {A = ℕ} 0 1 = cc in omega arith)
-  between-leads (parity.Is p) (parity.Is q) f = flow-leads (run plan (pops_for known waiting) (begin plan (plan.heuristic plan.start))) refl f
+  between-leads (Err r) q f = absurd (let z : ◌≡◌ {A = ℕ} 0 1 = cc in omega arith)
+  between-leads (Ok p) (Err r) f = absurd (let z : ◌≡◌ {A = ℕ} 0 1 = cc in omega arith)
+  between-leads (Ok p) (Ok q) f = flow-leads (run plan (pops_for known waiting) (begin plan (plan.heuristic plan.start))) refl f
 
   -- the cells that are found go from the start to the goal, at the cost that is told
   pub found-leads : search_of (endpoints s e) (in_rooms known waiting) limit rule rows ≡ found cells cost expansions → Route (plan_of (endpoints s e) (in_rooms known waiting) limit rule rows) Beside (raw_of e) cost cells

@@ -1,4 +1,6 @@
 -- A cost is the bits of a number that is no NaN and has the sign +. Sums of costs, steps and distances are costs, and costs are in the order of their bits.
+use Rattle.std.specs.Prelude.{Result, Ok, Err}
+use Rattle.refusal.specs.declared.Refusal.{Refusal}
 use mathlib.Core.Path.{◌≡◌, refl, sym, ap, subst, ◌∙◌}
 use mathlib.Core.Bool.{Bool, true, false, not, cond, ◌&&◌, ◌||◌, beq, true≢false}
 use Prim.Native.Nat.{ℕ, zero, suc, ◌+◌, ◌*◌, ◌/◌, ◌%◌, ◌^◌, ◌≤◌}
@@ -14,8 +16,6 @@ use Rattle.refusal.specs.declared.Coord.{Coord}
 use Rattle.float.proofs.Laws.{either}
 use Rattle.float.proofs.Sizes.{unsigned, numbers-order}
 use Rattle.lattice.specs.Lattice.{is_odd}
-use Rattle.distance.specs.declared.DistanceAnswer.{DistanceAnswer}
-use Rattle.distance.specs.declared.DistanceAnswer.TheVariants as distance
 use Rattle.distance.specs.Distance.{distance_of}
 use Rattle.distance.specs.Steps.{root_three, two_float}
 use Rattle.distance.proofs.Nearest.{distance-nearest}
@@ -198,13 +198,13 @@ value-number nan a c h = h
 value-number (inf s) a c h = absurd h
 value-number (fin s m e) a c h = h.0
 
-pub distance-cost : (a b : Coord) (d : Float) → distance_of a b ≡ distance.Is d → Cost (to_bits binary64 d)
+pub distance-cost : (a b : Coord) (d : Float) → distance_of a b ≡ Ok d → Cost (to_bits binary64 d)
 distance-cost a b d h = let n = distance-nearest a b d h in number-cost d n.representable (value-number d _ _ n.not_negative)
 
 -- the heuristic that a search is told
 pub ahead-cost : (a b : Cell) (x : ℕ) → is x ≡ distance_bits (distance_cells a b) → Cost x
 ahead-cost a b x e = by_answer (distance_of (coord_of a) (coord_of b)) refl e
   where
-    by_answer : (d : DistanceAnswer) → distance_of (coord_of a) (coord_of b) ≡ d → is x ≡ distance_bits d → Cost x
-    by_answer (distance.Is d) f g = let same : to_bits binary64 d ≡ x = cc in subst Cost same (distance-cost (coord_of a) (coord_of b) d f)
-    by_answer (distance.Refused r) f g = absurd (let z : ◌≡◌ {A = ℕ} 0 1 = cc in omega arith)
+    by_answer : (d : Result Float Refusal) → distance_of (coord_of a) (coord_of b) ≡ d → is x ≡ distance_bits d → Cost x
+    by_answer (Ok d) f g = let same : to_bits binary64 d ≡ x = cc in subst Cost same (distance-cost (coord_of a) (coord_of b) d f)
+    by_answer (Err r) f g = absurd (let z : ◌≡◌ {A = ℕ} 0 1 = cc in omega arith)

@@ -9,7 +9,7 @@ use native.Mathlib.Omega.{arith}
 use lib.ListN.{length}
 use borrow.Author.Tests.{ltb-true, eq-eqb}
 use Rattle.general.specs.Each.{Each}
-use Rattle.search.specs.Search.{Problem, OrRefused, is, refused, Entry, State, Result, none_found, Flow, going, done, find, close, is_closed, is_known, g_of, plus, pushed, relax_all, arrived, popped, next, step, run, first, begin, Ends}
+use Rattle.search.specs.Search.{Problem, OrRefused, is, refused, Entry, State, SearchResult, none_found, Flow, going, done, find, close, is_closed, is_known, g_of, plus, pushed, relax_all, arrived, popped, next, step, run, first, begin, Ends}
 use Rattle.search.specs.Plan.{at_end, pops_for}
 use Rattle.search.proofs.WaitingLaws.{length-insert, waits-put, waits-close}
 use Rattle.search.specs.Inner.KnownCell.{KnownCell}
@@ -21,7 +21,7 @@ use Rattle.search.proofs.Invariants.{Holding, holding-follows, Lowered, HasRoom,
 -- ---- one result
 
 module _ (P : Problem) where
-  run-done : (k : ℕ) (r : Result) → run P k (done r) ≡ done r
+  run-done : (k : ℕ) (r : SearchResult) → run P k (done r) ≡ done r
   unfolding run
   run-done zero r = refl
   run-done (suc k) r = refl
@@ -34,7 +34,7 @@ module _ (P : Problem) where
   run-split (suc a) b (going s) = let e : suc a + b ≡ suc (a + b) = omega arith in rw e (run-split a b (step P s))
 
   -- two ends agree
-  pub one_end : (r q : Result) → Ends P r → Ends P q → r ≡ q
+  pub one_end : (r q : SearchResult) → Ends P r → Ends P q → r ≡ q
   one_end r q (j, d) (k, e) =
       let start = begin P (P.heuristic P.start) in
       let a : run P (j + k) start ≡ done r = run-split j k start ∙ rw d (run-done k r) in
@@ -145,7 +145,7 @@ module _ (P : Problem) where
   -- ---- the end
 
   abbrev Done : Flow → Type 0
-  Done f = (r : Result) × (f ≡ done r)
+  Done f = (r : SearchResult) × (f ≡ done r)
 
   run_ends : (k : ℕ) (s : State) → Roomy s → left s < k → Done (run P k (going s))
   unfolding run
@@ -184,5 +184,5 @@ module _ (P : Problem) where
     ends = let e = begin-ends (P.heuristic P.start) in e.1 ∙ ap (λ (f : Flow). done (at_end f)) (sym e.1)
 
     -- and whatever it ends with, after however many pops, is that result
-    pub result-is : (r : Result) → Ends P r → at_end flow ≡ r
+    pub result-is : (r : SearchResult) → Ends P r → at_end flow ≡ r
     result-is r e = one_end P (at_end flow) r (pops_for P.known_room P.waiting_room, ends) e

@@ -11,7 +11,7 @@ use lib.ListN.{length}
 use borrow.Author.Tests.{ltb-true, lt-ltb}
 use Rattle.refusal.specs.declared.Room.TheVariants.{Known, Waiting}
 use Rattle.refusal.specs.declared.Refusal.TheVariants.{NoRoom}
-use Rattle.search.specs.Search.{Problem, OrRefused, is, refused, KnownRow, Entry, State, Result, none_found, Flow, going, done, stopped, and_then, find, is_closed, is_known, g_of, plus, less, pushed, push, lower, tried, relax, relax_all, around, arrived, entered, popped, next, step, run, begin, Ends}
+use Rattle.search.specs.Search.{Problem, OrRefused, is, refused, KnownRow, Entry, State, SearchResult, none_found, Flow, going, done, stopped, and_then, find, is_closed, is_known, g_of, plus, less, pushed, push, lower, tried, relax, relax_all, around, arrived, entered, popped, next, step, run, begin, Ends}
 use Rattle.search.specs.Reached.{closing}
 use Rattle.general.proofs.Tests.{on_test}
 
@@ -132,7 +132,7 @@ module _ (P : Problem) (known waiting : ℕ) (more-known : P.known_room ≤ know
       go (inr short) later = inr (run_short k short)
 
   -- a search that ends for another reason ends so in larger rooms
-  pub ends-alike : (r : Result) → Ends P r → (r ≡ none_found (NoRoom Known) → ⊥) → (r ≡ none_found (NoRoom Waiting) → ⊥) → Ends L r
+  pub ends-alike : (r : SearchResult) → Ends P r → (r ≡ none_found (NoRoom Known) → ⊥) → (r ≡ none_found (NoRoom Waiting) → ⊥) → Ends L r
   ends-alike r (k, e) some_Known some-waiting = (k, go (run-alike k (begin P (P.heuristic P.start))))
     where
       other : (f : Flow) → f ≡ done r → Short f → ⊥

@@ -1,5 +1,7 @@
 -- "SearchLimitExceeded carries expansions, limit": a search that is refused so has closed one cell more than its limit. While it goes on it has closed no more than the limit, so the first
 -- that is too many is the one after.
+use Rattle.std.specs.Prelude.{Result, Ok, Err}
+use Rattle.lattice.specs.declared.Parity.{Parity}
 use mathlib.Core.Path.{◌≡◌, refl, sym}
 use mathlib.Core.List.{List, [], ◌∷◌}
 use Prim.Native.Nat.{ℕ, ◌+◌, ◌≤◌, ◌<◌}
@@ -11,8 +13,6 @@ use Rattle.refusal.specs.declared.Spent.{Spent}
 use Rattle.refusal.specs.declared.Refusal.{Refusal}
 use Rattle.refusal.specs.declared.Refusal.TheVariants.{SearchLimitExceeded}
 use Rattle.refusal.specs.Refusals.{raw_of}
-use Rattle.lattice.specs.declared.ParityAnswer.{ParityAnswer}
-use Rattle.lattice.specs.declared.ParityAnswer.TheVariants as parity
 use Rattle.lattice.specs.Lattice.{parity_of}
 use Rattle.cell.specs.Cell.{coord_of}
 use Rattle.table.specs.Records.{Row}
@@ -107,10 +107,10 @@ module _ (s e : Cell) (known waiting limit rule : ℕ) (rows : List Row) where
     flow-limit (done (found cells cost expansions)) h f = absurd (let z : ◌≡◌ {A = ℕ} 0 1 = cc in omega arith)
     flow-limit (done (none_found r)) h f = h x (let same : r ≡ SearchLimitExceeded x = cc in same)
 
-    result-limit : (p q : ParityAnswer) → parity_of (coord_of s) ≡ p → parity_of (coord_of e) ≡ q → found_between p q plan ≡ none_found (SearchLimitExceeded x) → OneBeyond limit x
-    result-limit (parity.Refused r) q first second f = own-unlimited limit (parity-own (coord_of s) r first) x (let same : r ≡ SearchLimitExceeded x = cc in same)
-    result-limit (parity.Is p) (parity.Refused r) first second f = own-unlimited limit (parity-own (coord_of e) r second) x (let same : r ≡ SearchLimitExceeded x = cc in same)
-    result-limit (parity.Is p) (parity.Is q) first second f =
+    result-limit : (p q : Result Parity Refusal) → parity_of (coord_of s) ≡ p → parity_of (coord_of e) ≡ q → found_between p q plan ≡ none_found (SearchLimitExceeded x) → OneBeyond limit x
+    result-limit (Err r) q first second f = own-unlimited limit (parity-own (coord_of s) r first) x (let same : r ≡ SearchLimitExceeded x = cc in same)
+    result-limit (Ok p) (Err r) first second f = own-unlimited limit (parity-own (coord_of e) r second) x (let same : r ≡ SearchLimitExceeded x = cc in same)
+    result-limit (Ok p) (Ok q) first second f =
         let pops = pops_for plan.known_room plan.waiting_room in
         flow-limit (run plan pops (begin plan (plan.heuristic plan.start))) (plan-within pops) f
 

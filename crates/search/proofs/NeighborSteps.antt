@@ -1,4 +1,7 @@
 -- The neighbours that the search goes to are cells of 128 bits, and going to one is a step of the route checker's.
+use Rattle.std.specs.Prelude.{Result, Ok, Err}
+use Rattle.lattice.specs.declared.Parity.{Parity}
+use Rattle.refusal.specs.declared.Refusal.{Refusal}
 use mathlib.Core.Path.{◌≡◌, refl, sym, subst}
 use mathlib.Core.Bool.{Bool, true, false}
 use mathlib.Core.List.Memᴰ
@@ -7,8 +10,6 @@ use Prim.Native.Nat.{ℕ, ◌<◌}
 use native.Mathlib.Omega.{arith}
 use Rattle.refusal.specs.declared.Cell.{Cell}
 use Rattle.refusal.specs.Refusals.{raw_of, cell_of}
-use Rattle.lattice.specs.declared.ParityAnswer.{ParityAnswer}
-use Rattle.lattice.specs.declared.ParityAnswer.TheVariants as parity
 use Rattle.lattice.specs.Lattice.{is_lattice_point, parity_of, neighbor_places, has_neighbor_room}
 use Rattle.lattice.proofs.Laws.{parity-point, room_fits}
 use Rattle.general.specs.Each.{Each}
@@ -50,16 +51,16 @@ each-raw c [] f = tt
 each-raw c (k ∷ cells) f = (raw-beside c k (f k (Memᴰ.head refl)), each-raw c cells (λ b m. f b (Memᴰ.tail m)))
 
 -- the neighbours of a cell, where there are any
-pub near-beside : (c : ℕ) (ns : List ℕ) → near_by (neighbors_of (cell_of c)).outcome (neighbors_of (cell_of c)).cells ≡ is ns → Each (Beside c) ns
+pub near-beside : (c : ℕ) (ns : List ℕ) → near_by (neighbors_of (cell_of c)) ≡ is ns → Each (Beside c) ns
 unfolding neighbors_of
 near-beside c ns e = by-parity (parity_of (coord_of (cell_of c))) refl e
   where
-    by-room : (t : Bool) → has_neighbor_room (coord_of (cell_of c)) ≡ t → is_lattice_point (coord_of (cell_of c)) ≡ true → near_by (neighbors_in t (cell_of c)).outcome (neighbors_in t (cell_of c)).cells ≡ is ns → Each (Beside c) ns
+    by-room : (t : Bool) → has_neighbor_room (coord_of (cell_of c)) ≡ t → is_lattice_point (coord_of (cell_of c)) ≡ true → near_by (neighbors_in t (cell_of c)) ≡ is ns → Each (Beside c) ns
     by-room true room point f =
         let these : map raw_of (near_cells (cell_of c)) ≡ ns = cc in
         subst (Each (Beside c)) these (each-raw c (near_cells (cell_of c)) (near_step (cell_of c) point room))
     by-room false room point f = absurd (let z : ◌≡◌ {A = ℕ} 0 1 = cc in omega arith)
 
-    by-parity : (a : ParityAnswer) → parity_of (coord_of (cell_of c)) ≡ a → near_by (neighbors_by a (cell_of c)).outcome (neighbors_by a (cell_of c)).cells ≡ is ns → Each (Beside c) ns
-    by-parity (parity.Refused r) p f = absurd (let z : ◌≡◌ {A = ℕ} 0 1 = cc in omega arith)
-    by-parity (parity.Is p) q f = by-room (has_neighbor_room (coord_of (cell_of c))) refl (parity-point (coord_of (cell_of c)) p q) f
+    by-parity : (a : Result Parity Refusal) → parity_of (coord_of (cell_of c)) ≡ a → near_by (neighbors_by a (cell_of c)) ≡ is ns → Each (Beside c) ns
+    by-parity (Err r) p f = absurd (let z : ◌≡◌ {A = ℕ} 0 1 = cc in omega arith)
+    by-parity (Ok p) q f = by-room (has_neighbor_room (coord_of (cell_of c))) refl (parity-point (coord_of (cell_of c)) p q) f

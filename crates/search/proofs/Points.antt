@@ -13,7 +13,7 @@ use Rattle.refusal.specs.Refusals.{raw_of}
 use Rattle.refusal.specs.declared.Room.TheVariants.{Known, Waiting}
 use Rattle.lattice.specs.Lattice.{at}
 use Rattle.cell.specs.Cell.{packed, plain_at}
-use Rattle.search.specs.Search.{Problem, Result, found, none_found, Entry, Flow, going, done, waiting_key, run, begin, relax, step}
+use Rattle.search.specs.Search.{Problem, SearchResult, found, none_found, Entry, Flow, going, done, waiting_key, run, begin, relax, step}
 use Rattle.search.specs.Plan.{plan_of, search_of, endpoints}
 use Rattle.known.specs.Workspace.{in_rooms}
 use Rattle.search.specs.Costs.{equal, first_out}
@@ -23,10 +23,10 @@ abbrev pub plain : ℕ → ℕ → ℕ → Cell
 plain x y z = plain_at 0 0 (at (pos x) (pos y) (pos z))
 
 -- from (0,0,0) to (2,2,0) in full rooms, with no flags kept
-abbrev pub between : ℕ → ℕ → Result
+abbrev pub between : ℕ → ℕ → SearchResult
 between rule limit = search_of (endpoints (plain 0 0 0) (plain 2 2 0)) (in_rooms 65536 65536) limit rule []
 
-abbrev pub beyond : ℕ → ℕ → Result
+abbrev pub beyond : ℕ → ℕ → SearchResult
 beyond expansions limit = none_found (SearchLimitExceeded (record { expansions = expansions; limit = limit }))
 
 pub record OpenSearches (rule : ℕ) : Type 0 where

@@ -1,5 +1,7 @@
 -- "NoRoom is given exactly where the plain search would need one more", both ways. `no-room-first-more`: a search ends with NoRoom of a room if and only if it comes to a place at which the search
 -- in larger rooms takes one more than that room holds. `no-room-needed`: and it ends with NoRoom of one of the two if and only if the search in larger rooms anywhere needs one more.
+use Rattle.std.specs.Prelude.{Ok, Err}
+use Rattle.lattice.specs.declared.Parity.{Parity}
 use mathlib.Core.Path.{◌≡◌, refl, sym, ap, ◌∙◌}
 use mathlib.Core.Logic.{◌⊎◌, inl, inr, ◌↔◌}
 use mathlib.Core.Bool.{true, false, ◌||◌}
@@ -17,13 +19,11 @@ use Rattle.refusal.specs.declared.Room.TheVariants.{Known, Waiting}
 use Rattle.refusal.specs.declared.Refusal.{Refusal}
 use Rattle.refusal.specs.declared.Refusal.TheVariants.{NoRoom}
 use Rattle.refusal.specs.Refusals.{raw_of}
-use Rattle.lattice.specs.declared.ParityAnswer.{ParityAnswer}
-use Rattle.lattice.specs.declared.ParityAnswer.TheVariants as parity
 use Rattle.lattice.specs.Lattice.{parity_of}
 use Rattle.lattice.proofs.Laws.{parity-point, point-parity}
 use Rattle.cell.specs.Cell.{coord_of}
 use Rattle.table.specs.Records as layer
-use Rattle.search.specs.Search.{Problem, OrRefused, is, refused, KnownRow, Entry, State, Result, found, none_found, Flow, going, done, stopped, and_then, find, is_closed, is_known, g_of, plus, less, pushed, push, lower, tried, relax, relax_all, around, entered, popped, next, step, run, begin, Ends}
+use Rattle.search.specs.Search.{Problem, OrRefused, is, refused, KnownRow, Entry, State, SearchResult, found, none_found, Flow, going, done, stopped, and_then, find, is_closed, is_known, g_of, plus, less, pushed, push, lower, tried, relax, relax_all, around, entered, popped, next, step, run, begin, Ends}
 use Rattle.search.specs.Plan.{plan_of, pops_for, at_end, search_of, endpoints}
 use Rattle.known.specs.Workspace.{in_rooms}
 use Rattle.search.proofs.Split.{found_between}
@@ -50,7 +50,7 @@ module _ (P : Problem) where
   reached-run (at_first e) = (0, ap (begin P) e)
   reached-run (popped-on r e) = let h = reached-run r in (h.0 + 1, run-split P h.0 1 start ∙ ap (run P 1) h.1 ∙ e)
 
-  reached-ends : {s : State} {r : Result} → Reached P s → step P s ≡ done r → Ends P r
+  reached-ends : {s : State} {r : SearchResult} → Reached P s → step P s ≡ done r → Ends P r
   unfolding run
   reached-ends reached e = let h = reached-run reached in (h.0 + 1, run-split P h.0 1 start ∙ ap (run P 1) h.1 ∙ e)
 
@@ -62,13 +62,13 @@ module _ (P : Problem) where
   opened-step s e rest waits o l q near =
       ap (λ (w : List Entry). next P w s) waits ∙ rw (o, l, q) (ap (around P e.cell (g_of (find e.cell s.known)) (closing e.cell rest s)) near)
 
-  midway-ends : {c g : ℕ} {s : State} {ns : List ℕ} {r : Result} → Midway P c g s ns → relax_all P c g ns s ≡ done r → Ends P r
+  midway-ends : {c g : ℕ} {s : State} {ns : List ℕ} {r : SearchResult} → Midway P c g s ns → relax_all P c g ns s ≡ done r → Ends P r
   unfolding relax_all
   midway-ends (opened {s = s} {e = e} {rest = rest} reached waits o l q near) f = reached-ends reached (opened-step s e rest waits o l q near ∙ f)
   midway-ends (looked-on {c = c} {g = g} {ns = ns} m e) f = midway-ends m (ap (λ (h : Flow). and_then h (relax_all P c g ns)) e ∙ f)
 
   -- where looking at a neighbour ends it
-  ends_there : {c g n : ℕ} {s : State} {ns : List ℕ} {r : Result} → Midway P c g s (n ∷ ns) → relax P c g n s ≡ done r → Ends P r
+  ends_there : {c g n : ℕ} {s : State} {ns : List ℕ} {r : SearchResult} → Midway P c g s (n ∷ ns) → relax P c g n s ≡ done r → Ends P r
   unfolding relax_all
   ends_there {c} {g} {n} {s} {ns} m e = midway-ends m (ap (λ (h : Flow). and_then h (relax_all P c g ns)) e)
 
@@ -259,17 +259,17 @@ module _ (s e : Cell) (known waiting limit rule : ℕ) (rows : List layer.Row) w
       alike : found (raw_of s ∷ []) 0 0 ≡ none_found (NoRoom room) → Apart s e
       alike g = absurd (let z : ◌≡◌ {A = ℕ} 0 1 = cc in omega arith)
 
-      by-parity : eqb (raw_of s) (raw_of e) ≡ false → (p q : ParityAnswer) → parity_of (coord_of s) ≡ p → parity_of (coord_of e) ≡ q → found_between p q plan ≡ none_found (NoRoom room) → Apart s e
-      by-parity t (parity.Refused r) q first second g = absurd (parity-other (coord_of s) r first room (let same : r ≡ NoRoom room = cc in same))
-      by-parity t (parity.Is p) (parity.Refused r) first second g = absurd (parity-other (coord_of e) r second room (let same : r ≡ NoRoom room = cc in same))
-      by-parity t (parity.Is p) (parity.Is q) first second g = record { elsewhere = t; start-point = parity-point (coord_of s) p first; goal-point = parity-point (coord_of e) q second }
+      by-parity : eqb (raw_of s) (raw_of e) ≡ false → (p q : Result Parity Refusal) → parity_of (coord_of s) ≡ p → parity_of (coord_of e) ≡ q → found_between p q plan ≡ none_found (NoRoom room) → Apart s e
+      by-parity t (Err r) q first second g = absurd (parity-other (coord_of s) r first room (let same : r ≡ NoRoom room = cc in same))
+      by-parity t (Ok p) (Err r) first second g = absurd (parity-other (coord_of e) r second room (let same : r ≡ NoRoom room = cc in same))
+      by-parity t (Ok p) (Ok q) first second g = record { elsewhere = t; start-point = parity-point (coord_of s) p first; goal-point = parity-point (coord_of e) q second }
 
   module _ (some_Known : 1 ≤ known) (some-waiting : 1 ≤ waiting) where
-    result-ends : {r : Result} → Apart s e → search_of (endpoints s e) (in_rooms known waiting) limit rule rows ≡ r → Ends plan r
+    result-ends : {r : SearchResult} → Apart s e → search_of (endpoints s e) (in_rooms known waiting) limit rule rows ≡ r → Ends plan r
     unfolding plan_of
     result-ends a f = (pops_for known waiting, ends plan some_Known some-waiting ∙ ap done (sym (apart-runs a) ∙ f))
 
-    ends-result : {r : Result} → Apart s e → Ends plan r → search_of (endpoints s e) (in_rooms known waiting) limit rule rows ≡ r
+    ends-result : {r : SearchResult} → Apart s e → Ends plan r → search_of (endpoints s e) (in_rooms known waiting) limit rule rows ≡ r
     unfolding plan_of
     ends-result {r} a k = apart-runs a ∙ result-is plan some_Known some-waiting r k
 

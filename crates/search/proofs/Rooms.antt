@@ -1,6 +1,9 @@
 -- "NoRoom is given exactly where the plain search would need one more." A search that ends for another reason ends with the same result in any larger rooms: `same-in-larger-rooms`.
 -- And one that ends with NoRoom names the room of known cells or that of waiting entries, and the search in larger rooms comes to a place where it needs one more than that room holds:
 -- `no-room-one-more`, in the words of specs/Reached.antt. The other way round: proofs/RoomNeeded.antt.
+use Rattle.std.specs.Prelude.{Result, Ok, Err}
+use Rattle.lattice.specs.declared.Parity.{Parity}
+use Rattle.refusal.specs.declared.Refusal.{Refusal}
 use mathlib.Core.Path.{◌≡◌, refl, ap, ◌∙◌}
 use mathlib.Core.Bool.{Bool, true, false, cond}
 use mathlib.Core.List.{List, [], ◌∷◌}
@@ -12,12 +15,10 @@ use Rattle.refusal.specs.declared.Room.{Room}
 use Rattle.refusal.specs.declared.Room.TheVariants.{Known, Waiting}
 use Rattle.refusal.specs.declared.Refusal.TheVariants.{NoRoom}
 use Rattle.refusal.specs.Refusals.{raw_of}
-use Rattle.lattice.specs.declared.ParityAnswer.{ParityAnswer}
-use Rattle.lattice.specs.declared.ParityAnswer.TheVariants as parity
 use Rattle.lattice.specs.Lattice.{parity_of}
 use Rattle.cell.specs.Cell.{coord_of}
 use Rattle.table.specs.Records.{Row}
-use Rattle.search.specs.Search.{Result, found, none_found, done}
+use Rattle.search.specs.Search.{SearchResult, found, none_found, done}
 use Rattle.search.specs.Plan.{plan_of, pops_for, search_of, endpoints}
 use Rattle.known.specs.Workspace.{in_rooms}
 use Rattle.search.proofs.Split.{found_between}
@@ -31,21 +32,21 @@ use Rattle.search.proofs.Refusals.{parity-other, plan-refusals}
 
 module _ (s e : Cell) (known waiting more-known more-waiting limit rule : ℕ) (rows : List Row)
     (some_Known : 1 ≤ known) (some-waiting : 1 ≤ waiting) (known-grows : known ≤ more-known) (waiting-grows : waiting ≤ more-waiting) where
-  abbrev HadRoom : Result → Type 0
+  abbrev HadRoom : SearchResult → Type 0
   HadRoom r = (r ≡ none_found (NoRoom Known) → ⊥) × (r ≡ none_found (NoRoom Waiting) → ⊥)
 
-  result-alike : (p q : ParityAnswer) → HadRoom (found_between p q (plan_of (endpoints s e) (in_rooms known waiting) limit rule rows))
+  result-alike : (p q : Result Parity Refusal) → HadRoom (found_between p q (plan_of (endpoints s e) (in_rooms known waiting) limit rule rows))
       → found_between p q (plan_of (endpoints s e) (in_rooms more-known more-waiting) limit rule rows) ≡ found_between p q (plan_of (endpoints s e) (in_rooms known waiting) limit rule rows)
   unfolding plan_of
-  result-alike (parity.Refused r) q h = refl
-  result-alike (parity.Is p) (parity.Refused r) h = refl
-  result-alike (parity.Is p) (parity.Is q) h =
+  result-alike (Err r) q h = refl
+  result-alike (Ok p) (Err r) h = refl
+  result-alike (Ok p) (Ok q) h =
       let P = plan_of (endpoints s e) (in_rooms known waiting) limit rule rows in
-      let r = found_between (parity.Is p) (parity.Is q) P in
+      let r = found_between (Ok p) (Ok q) P in
       result-is (plan_of (endpoints s e) (in_rooms more-known more-waiting) limit rule rows) (omega arith) (omega arith) r
       (ends-alike P more-known more-waiting known-grows waiting-grows r (pops_for known waiting, ends P some_Known some-waiting) h.0 h.1)
 
-  search-alike : (same : Bool) (p q : ParityAnswer)
+  search-alike : (same : Bool) (p q : Result Parity Refusal)
       → HadRoom (cond same (found (raw_of s ∷ []) 0 0) (found_between p q (plan_of (endpoints s e) (in_rooms known waiting) limit rule rows)))
       → cond same (found (raw_of s ∷ []) 0 0) (found_between p q (plan_of (endpoints s e) (in_rooms more-known more-waiting) limit rule rows)) ≡ cond same (found (raw_of s ∷ []) 0 0) (found_between p q (plan_of (endpoints s e) (in_rooms known waiting) limit rule rows))
   search-alike true p q h = refl
@@ -67,11 +68,11 @@ module _ (s e : Cell) (known waiting more-known more-waiting limit rule : ℕ) (
   abbrev Past : Type 0
   Past = OneMore (plan_of (endpoints s e) (in_rooms more-known more-waiting) limit rule rows) known waiting room
 
-  result-short : (p q : ParityAnswer) → parity_of (coord_of s) ≡ p → parity_of (coord_of e) ≡ q → found_between p q (plan_of (endpoints s e) (in_rooms known waiting) limit rule rows) ≡ none_found (NoRoom room) → Past
+  result-short : (p q : Result Parity Refusal) → parity_of (coord_of s) ≡ p → parity_of (coord_of e) ≡ q → found_between p q (plan_of (endpoints s e) (in_rooms known waiting) limit rule rows) ≡ none_found (NoRoom room) → Past
   unfolding plan_of
-  result-short (parity.Refused r) q first second f = absurd (parity-other (coord_of s) r first room (let same : r ≡ NoRoom room = cc in same))
-  result-short (parity.Is p) (parity.Refused r) first second f = absurd (parity-other (coord_of e) r second room (let same : r ≡ NoRoom room = cc in same))
-  result-short (parity.Is p) (parity.Is q) first second f =
+  result-short (Err r) q first second f = absurd (parity-other (coord_of s) r first room (let same : r ≡ NoRoom room = cc in same))
+  result-short (Ok p) (Err r) first second f = absurd (parity-other (coord_of e) r second room (let same : r ≡ NoRoom room = cc in same))
+  result-short (Ok p) (Ok q) first second f =
       let P = plan_of (endpoints s e) (in_rooms known waiting) limit rule rows in
       short-one-more P more-known more-waiting known-grows waiting-grows some_Known some-waiting (plan-refusals s e known waiting limit rule rows) room
       (pops_for known waiting, ends P some_Known some-waiting ∙ ap done f)

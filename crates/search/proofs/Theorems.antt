@@ -1,4 +1,5 @@
 -- What is shown in this crate beside the contracts of src/: the theorems that docs/PROMISES.md names, in words of specs/. The law behind each is the one that its proof names.
+use Rattle.std.specs.Prelude.{Ok}
 use mathlib.Core.Path.{◌≡◌}
 use mathlib.Core.List.{List, map, Memᴰ, ◌∷◌}
 use mathlib.Core.Bool.{false}
@@ -12,7 +13,6 @@ use Rattle.refusal.specs.declared.Refusal.TheVariants.{NoRoom, SearchLimitExceed
 use Rattle.refusal.specs.declared.Room.{Room}
 use Rattle.refusal.specs.declared.Room.TheVariants.{Known, Waiting}
 use Rattle.refusal.specs.declared.Spent.{Spent}
-use Rattle.distance.specs.declared.DistanceAnswer.TheVariants as distance
 use Rattle.cell.specs.Cell.{distance_cells}
 use Rattle.cell.specs.Terms.{Words}
 use Rattle.table.specs.Records.{Row}
@@ -22,7 +22,7 @@ use Rattle.search.specs.Costs.{Cost, equal, CostState, first_out}
 use Rattle.search.specs.Reached.{OneMore, FirstMore}
 use Rattle.search.specs.Plan.{plan_of, search_of, endpoints, at_end, pops_for}
 use Rattle.known.specs.Workspace.{in_rooms}
-use Rattle.search.specs.Search.{found, Problem, done, run, begin, Result, Ends, none_found, less, State, going, Entry, waiting_key, is}
+use Rattle.search.specs.Search.{found, Problem, done, run, begin, SearchResult, Ends, none_found, less, State, going, Entry, waiting_key, is}
 use Rattle.search.specs.Terms.{Beside, Route, OneBeyond, Apart}
 use Rattle.search.proofs as laws
 
@@ -47,7 +47,7 @@ pub ends :
 ends = laws.Ending.ends
 
 -- A search ends in one way: any two results that it ends with are the same.
-pub one_end : (P : Problem) (r q : Result) → Ends P r → Ends P q → r ≡ q
+pub one_end : (P : Problem) (r q : SearchResult) → Ends P r → Ends P q → r ≡ q
 one_end = laws.Ending.one_end
 
 -- In rooms of at least 1, a search that is not refused for want of room has the same result as in rooms at least as large.
@@ -124,5 +124,5 @@ no-room-needed = laws.RoomNeeded.no-room-needed
 pub step-is-distance :
     (start goal : Cell) (known waiting limit rule : ℕ) (rows : List layer.Row)
     → let plan = plan_of (endpoints start goal) (in_rooms known waiting) limit rule rows in (n m : ℕ) (near : List ℕ) → plan.neighbors n ≡ is near
-    → Memᴰ m near → (d : Float) × (distance_cells (cell_of n) (cell_of m) ≡ distance.Is d) × (plan.cost n m ≡ to_bits binary64 d)
+    → Memᴰ m near → (d : Float) × (distance_cells (cell_of n) (cell_of m) ≡ Ok d) × (plan.cost n m ≡ to_bits binary64 d)
 step-is-distance = laws.StepDistances.step-is-distance

@@ -76,14 +76,14 @@ abbrev pub state : List KnownRow → List Entry → ℕ → State
 state k w n = record { known = k; waiting = w; count = n }
 
 -- a route with its cost and the number of expansions, or a refusal
-pub data Result : Type 0 where
-  found : List ℕ → ℕ → ℕ → Result
-  none_found : Refusal → Result
+pub data SearchResult : Type 0 where
+  found : List ℕ → ℕ → ℕ → SearchResult
+  none_found : Refusal → SearchResult
 
 -- a search goes on from a state, or is done
 pub data Flow : Type 0 where
   going : State → Flow
-  done : Result → Flow
+  done : SearchResult → Flow
 
 -- done: refused
 abbrev pub stopped : Refusal → Flow
@@ -196,7 +196,7 @@ module _ (P : Problem) where
   around c g s (is ns) = relax_all c g ns s
 
   -- the goal is closed: its route, its g and the cells closed
-  unfoldable pub arrived : State → Result
+  unfoldable pub arrived : State → SearchResult
   unfolding traced find
   arrived s = found (traced P.start s.count s.known P.goal []) (g_of (find P.goal s.known)) s.count
 
@@ -243,5 +243,5 @@ module _ (P : Problem) where
   begin (is h) = going (first h)
 
   -- the search ends with a result
-  abbrev pub Ends : Result → Type 0
+  abbrev pub Ends : SearchResult → Type 0
   Ends r = (k : ℕ) × (run k (begin (P.heuristic P.start)) ≡ done r)

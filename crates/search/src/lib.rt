@@ -10,9 +10,3 @@ pub struct Route {
     pub cost: u64,
     pub expansions: u64,
 }
-
-#[derive(Clone, Copy)]
-pub enum SearchAnswer {
-    Found(Route),
-    Refused(Refusal),
-}
