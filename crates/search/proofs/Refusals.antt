@@ -37,10 +37,10 @@ pub parity-own : (c : Coord) (r : Refusal) → parity_of c ≡ Err r → Own r
 unfolding parity_of
 parity-own c r e = whether (is_lattice_point c) (λ t. point (rw t at e)) (λ t. not-point (rw t at e))
   where
-    point : {p : Parity} → Ok p ≡ Err r → Own r
+    point : {p : Parity} → ◌≡◌ {A = Result Parity Refusal} (Ok p) (Err r) → Own r
     point e = absurd (let z : ◌≡◌ {A = ℕ} 0 1 = cc in omega arith)
 
-    not-point : Err (InvalidParity c) ≡ Err r → Own r
+    not-point : ◌≡◌ {A = Result Parity Refusal} (Err (InvalidParity c)) (Err r) → Own r
     not-point e = let same : InvalidParity c ≡ r = cc in subst Own same mixed
 
 pub parity-other : (c : Coord) (r : Refusal) → parity_of c ≡ Err r → Other r

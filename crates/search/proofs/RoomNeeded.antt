@@ -1,6 +1,6 @@
 -- "NoRoom is given exactly where the plain search would need one more", both ways. `no-room-first-more`: a search ends with NoRoom of a room if and only if it comes to a place at which the search
 -- in larger rooms takes one more than that room holds. `no-room-needed`: and it ends with NoRoom of one of the two if and only if the search in larger rooms anywhere needs one more.
-use Rattle.std.specs.Prelude.{Ok, Err}
+use Rattle.std.specs.Prelude.{Result, Ok, Err}
 use Rattle.lattice.specs.declared.Parity.{Parity}
 use mathlib.Core.Path.{◌≡◌, refl, sym, ap, ◌∙◌}
 use mathlib.Core.Logic.{◌⊎◌, inl, inr, ◌↔◌}

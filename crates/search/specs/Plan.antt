@@ -1,7 +1,7 @@
 -- The search over cells: "start = goal answers with cost 0.0, zero expansions, though mixed or blocked; parity of start, then goal; heuristic overflow." The rule and the rows of the
 -- flag layer say which cells are blocked. Definitions only.
 use Rattle.refusal.specs.declared.Refusal.{Refusal}
-use Rattle.std.specs.Prelude.{List, [], ◌∷◌, map, ℕ, ◌+◌, ◌*◌, ◌/◌, ◌%◌, ◌^◌, eqb, Float, Result, Ok, Err}
+use Rattle.std.specs.Prelude.{List, [], ◌∷◌, map, ℕ, ◌+◌, ◌*◌, eqb, Float, Result, Ok, Err}
 use Rattle.std.specs.Float.{binary64}
 use Rattle.std.specs.Float.Ieee.{to_bits}
 use Rattle.refusal.specs.declared.Cell.{Cell}

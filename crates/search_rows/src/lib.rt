@@ -7,7 +7,6 @@ ghost use Rattle.known.specs.Inner.Known.{Roomy, clear_in};
 ghost use Rattle.known.specs.Inner.Seek.{find_in};
 ghost use Rattle.search_rows.specs.Inner.Rows.{g_in, before_in, row_in, close_in, lower_in, append_in, RecordAt, Linked};
 
-use known::Found;
 use refusal::Cell;
 
 // In a record, behind its link: whether the cell is closed, its g, and the record of the cell before it.
@@ -18,7 +17,7 @@ const COST_OFFSET: usize = 24;
 const BEFORE_OFFSET: usize = 32;
 
 // The record of a cell.
-pub fn look(workspace: &[u8], room: usize, count: usize, c: Cell) -> Found
+pub fn look(workspace: &[u8], room: usize, count: usize, c: Cell) -> Option<usize>
     requires roomy { Roomy workspace.now room }
     requires count_le_room { count ≤ room }
     ensures { result ≡ find_in workspace.now room count c }

@@ -1,13 +1,11 @@
 -- The search's rows in the records of known cells: whether a cell is closed, its g, and the cell before it. What each function leaves there and answers is what the definition's row is.
 -- For contracts inside. Definitions only.
-use Rattle.std.specs.Prelude.{◌≡◌, List, [], ◌∷◌, ℕ, zero, suc, ◌+◌, ◌*◌, ◌≤◌, ◌<◌, ltb, length, drop}
+use Rattle.std.specs.Prelude.{◌≡◌, List, [], ◌∷◌, ℕ, zero, suc, ◌+◌, ◌*◌, ◌≤◌, ◌<◌, ltb, length, drop, Option, Some, None}
 use Rattle.std.proofs.Math.Option.{none, some}
 use Rattle.refusal.specs.declared.Cell.{Cell}
 use Rattle.refusal.specs.Refusals.{raw_of}
 use Rattle.words.specs.Word.{little, word, stored}
 use Rattle.known.specs.Inner.Known.{record_offset, cell_in, add_in, Roomy, Known}
-use Rattle.known.specs.declared.Found.{Found}
-use Rattle.known.specs.declared.Found.TheVariants.{At, Nowhere}
 use Rattle.search.specs.Search.{KnownRow, row, find}
 use Rattle.known.specs.Workspace.{known_width}
 
@@ -97,9 +95,9 @@ pub record Rows (l : List ℕ) (room n : ℕ) : Type 0 where
 -- ---- what the functions answer and leave there
 
 -- what is answered about a cell is what the definition finds: the row of the record that has it, or none
-abbrev pub Looked : List ℕ → ℕ → ℕ → Cell → Found → Type 0
-Looked l room n c (At i) = (i < n) × (cell_in l room i ≡ c) × (find (raw_of c) (rows_in l room n) ≡ some (row_in l room i))
-Looked l room n c Nowhere = ((j : ℕ) → j < n → cell_in l room j ≡ c → ⊥) × (find (raw_of c) (rows_in l room n) ≡ none)
+abbrev pub Looked : List ℕ → ℕ → ℕ → Cell → Option ℕ → Type 0
+Looked l room n c (Some i) = (i < n) × (cell_in l room i ≡ c) × (find (raw_of c) (rows_in l room n) ≡ some (row_in l room i))
+Looked l room n c None = ((j : ℕ) → j < n → cell_in l room j ≡ c → ⊥) × (find (raw_of c) (rows_in l room n) ≡ none)
 
 -- rows that became others; the cells of the n records that were there, and what stands behind the records, stay
 pub record RowChanged (l l' : List ℕ) (room n n' : ℕ) (rows : List KnownRow) : Type 0 where
