@@ -1,5 +1,7 @@
 -- A byte step from sizes within the rooms leads to sizes within the rooms, whatever the bytes hold, and pops come to an end: what is left falls with each.
-use mathlib.Core.Path.{◌≡◌, refl, subst, ◌∙◌}
+use Rattle.std.specs.Prelude.{Result, Ok, Err, Option, Some, None}
+use Rattle.lattice.specs.declared.Parity.{Parity}
+use mathlib.Core.Path.{◌≡◌, refl, sym, ap, subst, ◌∙◌}
 use mathlib.Core.Bool.{Bool, true, false, cond}
 use mathlib.Core.List.{List, [], ◌∷◌}
 use Prim.Native.Nat.{ℕ, suc, ◌+◌, ◌-◌, ◌≤◌, ◌<◌}
@@ -12,11 +14,7 @@ use Rattle.refusal.specs.declared.Cell.{Cell}
 use Rattle.refusal.specs.declared.Refusal.{Refusal}
 use Rattle.refusal.specs.declared.Refusal.TheVariants.{SearchLimitExceeded, NoRoom, NoPathFound, BadWorkspace}
 use Rattle.refusal.specs.declared.Room.TheVariants as room
-use Rattle.refusal.specs.declared.Outcome.{Outcome}
-use Rattle.refusal.specs.declared.Outcome.TheVariants as outcome
 use Rattle.refusal.specs.Refusals.{raw_of}
-use Rattle.lattice.specs.declared.ParityAnswer.{ParityAnswer}
-use Rattle.lattice.specs.declared.ParityAnswer.TheVariants as parity
 use Rattle.lattice.specs.Lattice.{parity_of, neighbor_steps, neighbor_places, has_neighbor_room}
 use Rattle.cell.specs.Cell.{coord_of, near_cells, neighbors_of, distance_cells}
 use Rattle.cell.proofs.Split.{neighbors_in, neighbors_by}
@@ -27,8 +25,6 @@ use Rattle.route.specs.Route.{cost_between, is_shut}
 use Rattle.waiting.specs.Inner.Entries.{entry_at}
 use Rattle.waiting.specs.Inner.Sift.{push_in, pop_in}
 use Rattle.waiting.proofs.Sifted.{length_push, length-pop}
-use Rattle.known.specs.declared.Found.{Found}
-use Rattle.known.specs.declared.Found.TheVariants as found
 use Rattle.known.specs.Inner.Known.{cell_in, record_offset, add_in}
 use Rattle.known.specs.Inner.Seek.{find_in}
 use Rattle.known.proofs.Added.{length-record}
@@ -37,6 +33,7 @@ use Rattle.search_rows.proofs.Written.{length-row}
 use Rattle.search.specs.Search.{OrRefused, is, refused, plus}
 use Rattle.search.specs.Plan.{distance_bits}
 use Rattle.general.proofs.Tests.{on_test}
+use Rattle.general.proofs.Results.{ok-path, err-is-no-ok}
 use Rattle.expansion.specs.declared.Plan.{Plan}
 use Rattle.expansion.specs.declared.Sizes.{Sizes}
 use Rattle.expansion.specs.declared.Step.{Step}
@@ -52,18 +49,18 @@ length-close w room i = length-stored little 4 w (record_offset room i + 20) 1
 pub length-append-in : (w : List ℕ) (room n : ℕ) (c : Cell) (g before : ℕ) → length (append_in w room n c g before) ≡ length w
 length-append-in w room n c g before = length-row (add_in w room n c) room n g before ∙ length-record w room n c
 
--- fourteen neighbours, whatever the cell
-pub length-near : (c : Cell) → length (neighbors_of c).cells ≡ 14
+-- fourteen neighbours, wherever there are any
+pub length-near : (c : Cell) (cells : List Cell) → neighbors_of c ≡ Ok cells → length cells ≡ 14
 unfolding neighbors_of near_cells neighbor_places neighbor_steps
-length-near c = by-parity (parity_of (coord_of c))
+length-near c cells e = by-parity (parity_of (coord_of c)) e
   where
-    by-room : (t : Bool) → length (neighbors_in t c).cells ≡ 14
-    by-room true = refl
-    by-room false = refl
+    by-room : (t : Bool) → neighbors_in t c ≡ Ok cells → length cells ≡ 14
+    by-room true f = sym (ap length (ok-path f))
+    by-room false f = absurd (err-is-no-ok f)
 
-    by-parity : (a : ParityAnswer) → length (neighbors_by a c).cells ≡ 14
-    by-parity (parity.Refused r) = refl
-    by-parity (parity.Is q) = by-room (has_neighbor_room (coord_of c))
+    by-parity : (a : Result Parity Refusal) → neighbors_by a c ≡ Ok cells → length cells ≡ 14
+    by-parity (Err r) f = absurd (err-is-no-ok f)
+    by-parity (Ok q) f = by-room (has_neighbor_room (coord_of c)) f
 
 -- ---- what stays
 
@@ -152,9 +149,9 @@ module _ (p : Plan) (flags : List Row) where
         (λ l. on_test (Kept p w h z 1) (ltb z.known p.known) (push_new_in p w h z at n t) full (λ e. fresh_kept at n t (ltb-true z.known p.known e)) (λ e. kept-stopped 1 (NoRoom room.Known)))
         (λ l. kept_here 1))
 
-    tried-kept : (at : ℕ) (n : Cell) (t : ℕ) (r : Found) → Kept p w h z 1 (tried_in p flags w h z at n t r)
-    tried-kept at n t (found.At i) = known_kept at i n t
-    tried-kept at n t found.Nowhere = new-kept at n t
+    tried-kept : (at : ℕ) (n : Cell) (t : ℕ) (r : Option ℕ) → Kept p w h z 1 (tried_in p flags w h z at n t r)
+    tried-kept at n t (Some i) = known_kept at i n t
+    tried-kept at n t None = new-kept at n t
 
     pub relax-kept : (at : ℕ) (c : Cell) (g : ℕ) (n : Cell) → Kept p w h z 1 (relax_in p flags at c g n w h z)
     unfolding relax_in
@@ -209,9 +206,9 @@ module _ (p : Plan) (flags : List Row) where
       subst (λ (k : ℕ). Kept p w h z k (and_then_in x.0 x.1 x.2 (relax_all_in p flags at c g ns))) more
       (then-kept w h z fits 1 (length ns) (relax_all_in p flags at c g ns) x.0 x.1 x.2 (relax-kept w h z fits at c g n) (λ z' there. relax-all-kept at c g ns x.0 x.1 z' there))
 
-  around-kept : (w h : List ℕ) (z : Sizes) → Fits p w h z → (at : ℕ) (c : Cell) (g : ℕ) (o : Outcome) (cells : List Cell) → length cells ≡ 14 → Kept p w h z 14 (around_in p flags w h z at c g o cells)
-  around-kept w h z fits at c g (outcome.Refused r) cells long = kept-stopped w h z fits 14 r
-  around-kept w h z fits at c g outcome.Answered cells long = subst (λ (k : ℕ). Kept p w h z k (relax_all_in p flags at c g cells w h z)) long (relax-all-kept at c g cells w h z fits)
+  around-kept : (w h : List ℕ) (z : Sizes) → Fits p w h z → (at : ℕ) (c : Cell) (g : ℕ) (o : Result (List Cell) Refusal) → ((cells : List Cell) → o ≡ Ok cells → length cells ≡ 14) → Kept p w h z 14 (around_in p flags w h z at c g o)
+  around-kept w h z fits at c g (Err r) long = kept-stopped w h z fits 14 r
+  around-kept w h z fits at c g (Ok cells) long = subst (λ (k : ℕ). Kept p w h z k (relax_all_in p flags at c g cells w h z)) (long cells refl) (relax-all-kept at c g cells w h z fits)
 
   pub entered-kept : (w h : List ℕ) (z : Sizes) → Fits p w h z → (at g : ℕ) → Kept p w h z 14 (entered_in p flags w h z at g)
   unfolding entered_in
@@ -219,10 +216,10 @@ module _ (p : Plan) (flags : List Row) where
       let c = cell_in w p.known at in
       let spent : After = (w, h, step.Stopped (SearchLimitExceeded (record { expansions = z.count; limit = p.limit }))) in
       let there : After = (w, h, step.Arrived z) in
-      let around = around_in p flags w h z at c g (neighbors_of c).outcome (neighbors_of c).cells in
+      let around = around_in p flags w h z at c g (neighbors_of c) in
       on_test (Kept p w h z 14) (ltb p.limit z.count) spent (cond (eqb (raw_of c) (raw_of p.goal)) there around) (λ e. kept-stopped w h z fits 14 (SearchLimitExceeded (record { expansions = z.count; limit = p.limit })))
       (λ e. on_test (Kept p w h z 14) (eqb (raw_of c) (raw_of p.goal)) there around (λ f. record { workspace-length = refl; heap-length = refl; on = (kept_here w h z fits 14).on })
-      (λ f. around-kept w h z fits at c g (neighbors_of c).outcome (neighbors_of c).cells (length-near c)))
+      (λ f. around-kept w h z fits at c g (neighbors_of c) (length-near c)))
 
   -- ---- one pop
 
@@ -291,9 +288,9 @@ module _ (p : Plan) (flags : List Row) where
         forward (step.Arrived z') on = within z' on
         forward (step.Going z') on = within z' on
 
-    found-pop : (r : Found) → Popped w h z (popped_in p flags w h' z r)
-    found-pop found.Nowhere = bad-pop
-    found-pop (found.At i) =
+    found-pop : (r : Option ℕ) → Popped w h z (popped_in p flags w h' z r)
+    found-pop None = bad-pop
+    found-pop (Some i) =
         let bad : After = (w, h', step.Stopped BadWorkspace) in
         let skip : After = (w, h', step.Going (sizes_of z.known (z.waiting - 1) z.count)) in
         let enter = entered_in p flags (close_in w p.known i) h' (closed_sizes z) i (g_in w p.known i) in

@@ -1,4 +1,5 @@
 -- What follows of the byte steps for any bytes: the cases of each, what stays within the buffers and the rooms, and that pops come to an end.
+use Rattle.std.specs.Prelude.{Result, Option, Some}
 use mathlib.Core.Path.{◌≡◌, refl, sym, ap, ◌∙◌}
 use mathlib.Core.Bool.{Bool, true, false, cond}
 use mathlib.Core.List.{List}
@@ -11,17 +12,13 @@ use Rattle.refusal.specs.declared.Cell.{Cell}
 use Rattle.refusal.specs.declared.Refusal.{Refusal}
 use Rattle.refusal.specs.declared.Refusal.TheVariants.{SearchLimitExceeded, NoRoom, NoPathFound, BadWorkspace}
 use Rattle.refusal.specs.declared.Room.TheVariants as room
-use Rattle.refusal.specs.declared.Outcome.{Outcome}
 use Rattle.refusal.specs.Refusals.{raw_of}
-use Rattle.cell.specs.declared.Neighbors.{Neighbors}
 use Rattle.cell.specs.Cell.{neighbors_of, distance_cells}
 use Rattle.table.specs.Records.{Row}
 use Rattle.route.specs.Route.{cost_between, is_shut}
 use Rattle.waiting.specs.declared.Entry.{Entry}
 use Rattle.waiting.specs.Inner.Entries.{entry_at}
 use Rattle.waiting.specs.Inner.Sift.{push_in, pop_in}
-use Rattle.known.specs.declared.Found.{Found}
-use Rattle.known.specs.declared.Found.TheVariants as found
 use Rattle.known.specs.Inner.Known.{cell_in}
 use Rattle.known.specs.Inner.Seek.{find_in}
 use Rattle.search_rows.specs.Inner.Rows.{g_in, row_in, close_in, lower_in, append_in}
@@ -105,7 +102,7 @@ module _ (p : Plan) (flags : List Row) (w h : List ℕ) (z : Sizes) where
       unfolding try_new_in
       new-fresh l f = rw (s, lt-ltb t 0x7FF0_0000_0000_0000 l, lt-ltb z.known p.known f)
 
-  pub relax-is : (at g : ℕ) (n : Cell) (t k : ℕ) (c : Cell) (r : Found) → k ≡ to_bits binary64 (cost_between c n) → t ≡ plus g k → r ≡ find_in w p.known z.known n
+  pub relax-is : (at g : ℕ) (n : Cell) (t k : ℕ) (c : Cell) (r : Option ℕ) → k ≡ to_bits binary64 (cost_between c n) → t ≡ plus g k → r ≡ find_in w p.known z.known n
       → tried_in p flags w h z at n t r ≡ relax_in p flags at c g n w h z
   unfolding relax_in
   relax-is at g n t k c r cost sum look = λ i. tried_in p flags w h z at n ((sum ∙ ap (plus g) cost) i) (look i)
@@ -122,30 +119,30 @@ module _ (p : Plan) (flags : List Row) (w h : List ℕ) (z : Sizes) where
       unfolding entered_in
       entered-goal e = rw (le-ltb p.limit z.count left, ap (λ (d : Cell). eqb (raw_of d) (raw_of p.goal)) (sym same) ∙ e)
 
-      pub entered_on : eqb (raw_of c) (raw_of p.goal) ≡ false → entered_in p flags w h z at g ≡ around_in p flags w h z at c g (neighbors_of c).outcome (neighbors_of c).cells
+      pub entered_on : eqb (raw_of c) (raw_of p.goal) ≡ false → entered_in p flags w h z at g ≡ around_in p flags w h z at c g (neighbors_of c)
       unfolding entered_in
       entered_on e =
           rw (le-ltb p.limit z.count left, ap (λ (d : Cell). eqb (raw_of d) (raw_of p.goal)) (sym same) ∙ e)
-          (ap (λ (d : Cell). around_in p flags w h z at d g (neighbors_of d).outcome (neighbors_of d).cells) (sym same))
+          (ap (λ (d : Cell). around_in p flags w h z at d g (neighbors_of d)) (sym same))
 
       -- with the neighbours that the code has
-      pub entered_by : eqb (raw_of c) (raw_of p.goal) ≡ false → (x : Neighbors) → x ≡ neighbors_of c → (o : Outcome) → x.outcome ≡ o → entered_in p flags w h z at g ≡ around_in p flags w h z at c g o x.cells
-      entered_by e x near o told = entered_on e ∙ ap (λ (y : Neighbors). around_in p flags w h z at c g y.outcome y.cells) (sym near) ∙ ap (λ (a : Outcome). around_in p flags w h z at c g a x.cells) told
+      pub entered_by : eqb (raw_of c) (raw_of p.goal) ≡ false → (o : Result (List Cell) Refusal) → o ≡ neighbors_of c → entered_in p flags w h z at g ≡ around_in p flags w h z at c g o
+      entered_by e o told = entered_on e ∙ ap (around_in p flags w h z at c g) (sym told)
 
   module _ (i : ℕ) where
-    pub popped-skip : (row_in w p.known i).closed ≡ true → popped_in p flags w h z (found.At i) ≡ (w, h, step.Going (sizes_of z.known (z.waiting - 1) z.count))
+    pub popped-skip : (row_in w p.known i).closed ≡ true → popped_in p flags w h z (Some i) ≡ (w, h, step.Going (sizes_of z.known (z.waiting - 1) z.count))
     popped-skip e = rw e
 
     module _ (e : (row_in w p.known i).closed ≡ false) where
-      pub popped-all : z.known ≤ z.count → popped_in p flags w h z (found.At i) ≡ (w, h, step.Stopped BadWorkspace)
+      pub popped-all : z.known ≤ z.count → popped_in p flags w h z (Some i) ≡ (w, h, step.Stopped BadWorkspace)
       popped-all l = rw (e, le-ltb z.count z.known l)
 
       module _ (l : z.count < z.known) (g : ℕ) (read : g ≡ g_in w p.known i) where
-        pub popped-bad : 0x7FF0_0000_0000_0000 < g → popped_in p flags w h z (found.At i) ≡ (w, h, step.Stopped BadWorkspace)
+        pub popped-bad : 0x7FF0_0000_0000_0000 < g → popped_in p flags w h z (Some i) ≡ (w, h, step.Stopped BadWorkspace)
         popped-bad f = rw (e, lt-ltb z.count z.known l, ap is_no_cost (sym read) ∙ lt-ltb 0x7FF0_0000_0000_0000 g f)
 
         -- with what the code wrote
-        pub popped-entered : (w' : List ℕ) → g ≤ 0x7FF0_0000_0000_0000 → w' ≡ close_in w p.known i → popped_in p flags w h z (found.At i) ≡ entered_in p flags w' h (sizes_of z.known (z.waiting - 1) (z.count + 1)) i g
+        pub popped-entered : (w' : List ℕ) → g ≤ 0x7FF0_0000_0000_0000 → w' ≡ close_in w p.known i → popped_in p flags w h z (Some i) ≡ entered_in p flags w' h (sizes_of z.known (z.waiting - 1) (z.count + 1)) i g
         popped-entered w' f row =
             rw (e, lt-ltb z.count z.known l, ap is_no_cost (sym read) ∙ le-ltb 0x7FF0_0000_0000_0000 g f)
             (sym (λ j. entered_in p flags (row j) h (sizes_of z.known (z.waiting - 1) (z.count + 1)) i (read j)))
@@ -159,7 +156,7 @@ module _ (p : Plan) (flags : List Row) (w h : List ℕ) (z : Sizes) where
   advance-pop some = rw (ne_eqb z.waiting 0 (λ e. omega arith))
 
   -- with what the code popped and found
-  pub advance-by : (e : Entry) (h' : List ℕ) (r : Found) → 0 < z.waiting → e ≡ entry_at h 0 → h' ≡ pop_in h z.waiting → r ≡ find_in w p.known z.known e.cell → advance_in p flags w h z ≡ popped_in p flags w h' z r
+  pub advance-by : (e : Entry) (h' : List ℕ) (r : Option ℕ) → 0 < z.waiting → e ≡ entry_at h 0 → h' ≡ pop_in h z.waiting → r ≡ find_in w p.known z.known e.cell → advance_in p flags w h z ≡ popped_in p flags w h' z r
   advance-by e h' r some first rest look =
       advance-pop some
       ∙ sym (λ i. popped_in p flags w (rest i) z ((look ∙ ap (λ (d : Entry). find_in w p.known z.known d.cell) first) i))
@@ -171,7 +168,7 @@ module _ (p : Plan) (w h : List ℕ) (z : Sizes) where
   unfolding due_in
   due-none e = ap (λ (k : ℕ). cond (eqb k 0) false (is_open p w (find_in w p.known z.known (entry_at h 0).cell))) e
 
-  pub due-by : (e : Entry) (r : Found) → 0 < z.waiting → e ≡ entry_at h 0 → r ≡ find_in w p.known z.known e.cell → due_in p w h z ≡ is_open p w r
+  pub due-by : (e : Entry) (r : Option ℕ) → 0 < z.waiting → e ≡ entry_at h 0 → r ≡ find_in w p.known z.known e.cell → due_in p w h z ≡ is_open p w r
   unfolding due_in
   due-by e r more first look =
       rw (ne_eqb z.waiting 0 (λ e. omega arith))

@@ -1,4 +1,5 @@
 -- A cell that was closed and counted: the limit, the goal, the neighbours.
+use Rattle.std.specs.Prelude.{Result, Ok, Err}
 use mathlib.Core.Path.{◌≡◌, refl, sym, ap, subst, ◌∙◌}
 use mathlib.Core.Bool.{Bool, true, false}
 use mathlib.Core.List.{List, map}
@@ -8,10 +9,7 @@ use borrow.Author.Tests.{lt-ltb, le-ltb, eqb-true}
 use Rattle.refusal.specs.declared.Cell.{Cell}
 use Rattle.refusal.specs.declared.Refusal.{Refusal}
 use Rattle.refusal.specs.declared.Refusal.TheVariants.{SearchLimitExceeded}
-use Rattle.refusal.specs.declared.Outcome.{Outcome}
-use Rattle.refusal.specs.declared.Outcome.TheVariants as outcome
 use Rattle.refusal.specs.Refusals.{raw_of}
-use Rattle.cell.specs.declared.Neighbors.{Neighbors}
 use Rattle.cell.specs.Cell.{neighbors_of}
 use Rattle.cell.specs.Terms.{Words}
 use Rattle.words.specs.Word.{Bytes}
@@ -79,18 +77,16 @@ module _ (p : Plan) (flags w h : List ℕ) (count : ℕ) (z : Sizes) (at g : ℕ
           heap-length = refl;
         }
 
-    module _ (words : Words (cell_in w p.known at)) (elsewhere : eqb (raw_of d) (raw_of p.goal) ≡ false) (x : Neighbors) (e : x ≡ neighbors_of d) where
-      near-is : (o : Outcome) → x.outcome ≡ o → P.neighbors c ≡ near_by o x.cells
+    module _ (words : Words (cell_in w p.known at)) (elsewhere : eqb (raw_of d) (raw_of p.goal) ≡ false) (o : Result (List Cell) Refusal) (e : o ≡ neighbors_of d) where
+      near-is : P.neighbors c ≡ near_by o
       unfolding plan_of
-      near-is o f =
-          ap (λ (a : Cell). near_by (neighbors_of a).outcome (neighbors_of a).cells) (cell-raw (cell_in w p.known at) words ∙ sym same)
-          ∙ ap (λ (y : Neighbors). near_by y.outcome y.cells) (sym e) ∙ ap (λ (a : Outcome). near_by a x.cells) f
+      near-is = ap (λ (a : Cell). near_by (neighbors_of a)) (cell-raw (cell_in w p.known at) words ∙ sym same) ∙ ap near_by (sym e)
 
-      goes_on : (o : Outcome) → x.outcome ≡ o → entered P c g s ≡ around P c g s (near_by o x.cells)
-      goes_on o f = entered_on P c g s in-limit (goal-is elsewhere) ∙ ap (around P c g s) (near-is o f)
+      goes_on : (a : Result (List Cell) Refusal) → o ≡ a → entered P c g s ≡ around P c g s (near_by a)
+      goes_on a f = entered_on P c g s in-limit (goal-is elsewhere) ∙ ap (around P c g s) (near-is ∙ ap near_by f)
 
-      pub alone-meets : (r : Refusal) → x.outcome ≡ outcome.Refused r → StepMeets P p w h w h (step.Stopped r) (entered P c g s)
-      alone-meets r f = record { same = sym (goes_on (outcome.Refused r) f); good = tt; workspace-length = refl; heap-length = refl }
+      pub alone-meets : (r : Refusal) → o ≡ Err r → StepMeets P p w h w h (step.Stopped r) (entered P c g s)
+      alone-meets r f = record { same = sym (goes_on (Err r) f); good = tt; workspace-length = refl; heap-length = refl }
 
-      pub around-meets : x.outcome ≡ outcome.Answered → (w' h' : List ℕ) (r : Step) → StepMeets P p w h w' h' r (relax_all P c g (map raw_of x.cells) s) → StepMeets P p w h w' h' r (entered P c g s)
-      around-meets f w' h' r m = subst (StepMeets P p w h w' h' r) (sym (goes_on outcome.Answered f)) m
+      pub around-meets : (cells : List Cell) → o ≡ Ok cells → (w' h' : List ℕ) (r : Step) → StepMeets P p w h w' h' r (relax_all P c g (map raw_of cells) s) → StepMeets P p w h w' h' r (entered P c g s)
+      around-meets cells f w' h' r m = subst (StepMeets P p w h w' h' r) (sym (goes_on (Ok cells) f)) m

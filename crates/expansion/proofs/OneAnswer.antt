@@ -1,11 +1,11 @@
 -- Two answers that meet a contract of the search between pops agree, and so do the bytes that they leave in both buffers, whatever the bytes were.
+use Rattle.std.specs.Prelude.{Result, Ok, Err}
+use Rattle.refusal.specs.declared.Refusal.{Refusal}
 use mathlib.Core.Path.{◌≡◌, ap, sym, ◌∙◌}
 use denote.Ref.{at_last}
 use Rattle.general.specs.OneAnswer.{OneAnswer, OneExit}
 use Prim.Native.Nat.{ℕ}
 use native.Mathlib.Omega.{arith}
-use Rattle.expansion.specs.declared.Estimate.{Estimate}
-use Rattle.expansion.specs.declared.Estimate.TheVariants as estimate
 use Rattle.expansion.specs.Estimate.{told_ahead}
 use Rattle.expansion.specs.Inner.Bytes.{After}
 use Rattle.expansion.proofs as here
@@ -17,11 +17,11 @@ pub cost-one : OneAnswer 0 here.cost.Kinds.ps here.cost.Kinds.r here.cost.Reads.
 cost-one κs a z z' e e' p q = p.0 ∙ sym q.0
 
 -- what is told of an estimate is the whole of it
-told-one : (r r' : Estimate) → told_ahead r ≡ told_ahead r' → r ≡ r'
-told-one (estimate.Bits x) (estimate.Bits y) e = let same : x ≡ y = cc in ap estimate.Bits same
-told-one (estimate.Bits x) (estimate.Refused s) e = absurd (let c : ◌≡◌ {A = ℕ} 0 1 = cc in omega arith)
-told-one (estimate.Refused r) (estimate.Bits y) e = absurd (let c : ◌≡◌ {A = ℕ} 0 1 = cc in omega arith)
-told-one (estimate.Refused r) (estimate.Refused s) e = let same : r ≡ s = cc in ap estimate.Refused same
+told-one : (r r' : Result ℕ Refusal) → told_ahead r ≡ told_ahead r' → r ≡ r'
+told-one (Ok x) (Ok y) e = let same : x ≡ y = cc in ap Ok same
+told-one (Ok x) (Err s) e = absurd (let c : ◌≡◌ {A = ℕ} 0 1 = cc in omega arith)
+told-one (Err r) (Ok y) e = absurd (let c : ◌≡◌ {A = ℕ} 0 1 = cc in omega arith)
+told-one (Err r) (Err s) e = let same : r ≡ s = cc in ap Err same
 
 pub ahead-one : OneAnswer 0 here.ahead.Kinds.ps here.ahead.Kinds.r here.ahead.Reads.Post
 ahead-one κs a z z' e e' p q = told-one z z' (p.0 ∙ sym q.0)

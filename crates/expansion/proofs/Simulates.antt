@@ -1,4 +1,7 @@
 -- Where the bytes hold a state of the search, each byte step is the definition's step of that state, and the bytes hold its outcome.
+use Rattle.std.specs.Prelude.{Result, Ok, Err, Option, Some, None}
+use Rattle.refusal.specs.declared.Refusal.{Refusal}
+use Rattle.lattice.specs.declared.Parity.{Parity}
 use mathlib.Core.Path.{◌≡◌, refl, sym, ap, subst, ◌∙◌}
 use mathlib.Core.Bool.{Bool, true, false, cond}
 use mathlib.Core.List.Memᴰ
@@ -12,11 +15,7 @@ use borrow.Author.Tests.{leb-true, ltb-true, ltb-false, eqb-true, eqb-false}
 use Rattle.refusal.specs.declared.Cell.{Cell}
 use Rattle.refusal.specs.declared.Refusal.TheVariants.{SearchLimitExceeded, NoRoom, NoPathFound, BadWorkspace}
 use Rattle.refusal.specs.declared.Room.TheVariants as room
-use Rattle.refusal.specs.declared.Outcome.{Outcome}
-use Rattle.refusal.specs.declared.Outcome.TheVariants as outcome
 use Rattle.refusal.specs.Refusals.{raw_of}
-use Rattle.lattice.specs.declared.ParityAnswer.{ParityAnswer}
-use Rattle.lattice.specs.declared.ParityAnswer.TheVariants as parity
 use Rattle.lattice.specs.Lattice.{parity_of, neighbor_places, has_neighbor_room}
 use Rattle.lattice.proofs.Laws.{room_fits}
 use Rattle.general.specs.Each.{Each}
@@ -33,8 +32,6 @@ use Rattle.waiting.specs.Inner.Entries.{entry_at, EntryWords}
 use Rattle.waiting.specs.Inner.Sift.{push_in, pop_in}
 use Rattle.waiting.specs.Inner.Steps.{Popped}
 use Rattle.waiting.proofs.Sifted.{pushed-in, popped-in, bytes-push, bytes-pop}
-use Rattle.known.specs.declared.Found.{Found}
-use Rattle.known.specs.declared.Found.TheVariants as found
 use Rattle.known.specs.Inner.Known.{cell_in, record_offset, bucket_of, head_in, with_high, with_low, with_link, add_in}
 use Rattle.known.proofs.Laws.{cell-words}
 use Rattle.known.specs.Inner.Seek.{find_in}
@@ -46,6 +43,7 @@ use Rattle.search_rows.proofs.Appended.{appended-in}
 use Rattle.search.specs.Search.{Problem, OrRefused, is, refused, KnownRow, State, Flow, going, and_then, find, put, is_closed, plus, push, tried, relax, relax_all, entered, step}
 use Rattle.search.specs.Plan.{distance_bits}
 use Rattle.general.proofs.Tests.{on_test}
+use Rattle.general.proofs.Results.{ok-path, err-is-no-ok}
 use Rattle.search.proofs.Invariants.{Holding, Unfound}
 use Rattle.search.proofs.ClosedCounts.{closed-at-most}
 use Rattle.search.specs.Costs.{Cost}
@@ -98,17 +96,17 @@ plain-words c room k m =
     let r = Memᴰ.of_map (plain_at (frame_of c) (resolution_of c)) (neighbor_places (coord_of c)) m in
     subst Words r.2 (fields-packed (frame_of c) (resolution_of c) r.0 0 0 frame resolution (omega arith) (room_fits (coord_of c) r.0 room r.1)).words
 
-near-words : (c : Cell) → (neighbors_of c).outcome ≡ outcome.Answered → Each Words (neighbors_of c).cells
+near-words : (c : Cell) (cells : List Cell) → neighbors_of c ≡ Ok cells → Each Words cells
 unfolding neighbors_of
-near-words c e = by-parity (parity_of (coord_of c)) e
+near-words c cells e = by-parity (parity_of (coord_of c)) e
   where
-    by-room : (t : Bool) → has_neighbor_room (coord_of c) ≡ t → (neighbors_in t c).outcome ≡ outcome.Answered → Each Words (neighbors_in t c).cells
-    by-room true room f = each_of (near_cells c) (plain-words c room)
-    by-room false room f = absurd (let z : ◌≡◌ {A = ℕ} 0 1 = cc in omega arith)
+    by-room : (t : Bool) → has_neighbor_room (coord_of c) ≡ t → neighbors_in t c ≡ Ok cells → Each Words cells
+    by-room true room f = subst (Each Words) (ok-path f) (each_of (near_cells c) (plain-words c room))
+    by-room false room f = absurd (err-is-no-ok f)
 
-    by-parity : (a : ParityAnswer) → (neighbors_by a c).outcome ≡ outcome.Answered → Each Words (neighbors_by a c).cells
-    by-parity (parity.Refused r) f = absurd (let z : ◌≡◌ {A = ℕ} 0 1 = cc in omega arith)
-    by-parity (parity.Is q) f = by-room (has_neighbor_room (coord_of c)) refl f
+    by-parity : (a : Result Parity Refusal) → neighbors_by a c ≡ Ok cells → Each Words cells
+    by-parity (Err r) f = absurd (err-is-no-ok f)
+    by-parity (Ok q) f = by-room (has_neighbor_room (coord_of c)) refl f
 
 -- the bytes that hold a state have sizes within the rooms
 pub good-fits : {p : Plan} {w h : List ℕ} {z : Sizes} → HoldsSearch p w h z → Fits p w h z
@@ -251,10 +249,10 @@ module _ (p : Plan) (flags : List ℕ) (count : ℕ) where
             (λ e. unwritten (steps.Stopped (NoRoom room.Known)) flow (crowded-meets p flags w h count z at t n good words q (order ∙ l) (ltb-false z.known p.known e))))
             (λ l. unwritten (steps.Going z) flow (worse-meets p flags w h count z at t n good words none (order ∙ l))))
 
-      tried-simulates : (g : ℕ) (n : Cell) (t : ℕ) → Paid w p.known at g t n → Cost t → (r : Found) → Looked w p.known z.known n r → Simulates w h (tried_in p (rows_of 20 flags count) w h z at n t r) (relax P c g (raw_of n) s)
-      tried-simulates g n t by paid (found.At i) looked =
+      tried-simulates : (g : ℕ) (n : Cell) (t : ℕ) → Paid w p.known at g t n → Cost t → (r : Option ℕ) → Looked w p.known z.known n r → Simulates w h (tried_in p (rows_of 20 flags count) w h z at n t r) (relax P c g (raw_of n) s)
+      tried-simulates g n t by paid (Some i) looked =
           subst (Simulates w h (try_known_in p (rows_of 20 flags count) w h z at i n t)) (relaxed p flags w h count z at g t n by (some (row_in w p.known i)) looked.2) (known-simulates n t paid by.words i looked.0 looked.1)
-      tried-simulates g n t by paid found.Nowhere looked =
+      tried-simulates g n t by paid None looked =
           subst (Simulates w h (try_new_in p (rows_of 20 flags count) w h z at n t)) (relaxed p flags w h count z at g t n by none looked.1) (new-simulates n t paid by.words looked.0)
 
       pub relax-simulates : (g : ℕ) (n : Cell) → Cost g → Words n → Simulates w h (relax_in p (rows_of 20 flags count) at (cell_in w p.known at) g n w h z) (relax P c g (raw_of n) s)
@@ -320,23 +318,22 @@ module _ (p : Plan) (flags : List ℕ) (count : ℕ) where
       let Right : After → Type 0 = λ (y : After). Simulates w h y flow in
       let spent : After = (w, h, steps.Stopped (SearchLimitExceeded (record { expansions = z.count; limit = p.limit }))) in
       let there : After = (w, h, steps.Arrived z) in
-      let around = around_in p (rows_of 20 flags count) w h z at d g (neighbors_of d).outcome (neighbors_of d).cells in
+      let around = around_in p (rows_of 20 flags count) w h z at d g (neighbors_of d) in
       on_test Right (ltb p.limit z.count) spent (cond (eqb (raw_of d) (raw_of p.goal)) there around)
       (λ e. unwritten w h z good bytes heap-bytes (steps.Stopped (SearchLimitExceeded (record { expansions = z.count; limit = p.limit }))) flow (spent-meets p flags w h count z at g (ltb-true p.limit z.count e)))
       (λ e. on_test Right (eqb (raw_of d) (raw_of p.goal)) there around
       (λ f. unwritten w h z good bytes heap-bytes (steps.Arrived z) flow (arrived-meets p flags w h count z at g (ltb-false p.limit z.count e) d refl bytes below good f))
-      (λ f. by-outcome (ltb-false p.limit z.count e) f (neighbors_of d).outcome refl))
+      (λ f. by-answer (ltb-false p.limit z.count e) f (neighbors_of d) refl))
     where
-      by-outcome : z.count ≤ p.limit → eqb (raw_of (cell_in w p.known at)) (raw_of p.goal) ≡ false → (o : Outcome) → (neighbors_of (cell_in w p.known at)).outcome ≡ o
-          → Simulates w h (around_in p (rows_of 20 flags count) w h z at (cell_in w p.known at) g o (neighbors_of (cell_in w p.known at)).cells) (entered P (raw_of (cell_in w p.known at)) g (state_in p w h z))
-      by-outcome left f (outcome.Refused r) o =
+      by-answer : z.count ≤ p.limit → eqb (raw_of (cell_in w p.known at)) (raw_of p.goal) ≡ false → (a : Result (List Cell) Refusal) → neighbors_of (cell_in w p.known at) ≡ a
+          → Simulates w h (around_in p (rows_of 20 flags count) w h z at (cell_in w p.known at) g a) (entered P (raw_of (cell_in w p.known at)) g (state_in p w h z))
+      by-answer left f (Err r) o =
           unwritten w h z good bytes heap-bytes (steps.Stopped r) (entered P (raw_of (cell_in w p.known at)) g (state_in p w h z))
           (alone-meets p flags w h count z at g left (cell_in w p.known at) refl (cell-words w p.known at bytes) f (neighbors_of (cell_in w p.known at)) refl r o)
-      by-outcome left f outcome.Answered o =
-          let cells = (neighbors_of (cell_in w p.known at)).cells in
-          let m = relax-all-simulates at g (cell_in w p.known at) cost cells (near-words (cell_in w p.known at) o) w h z good bytes heap-bytes below refl in
+      by-answer left f (Ok cells) o =
+          let m = relax-all-simulates at g (cell_in w p.known at) cost cells (near-words (cell_in w p.known at) cells o) w h z good bytes heap-bytes below refl in
           record {
-            meets = around-meets p flags w h count z at g left (cell_in w p.known at) refl (cell-words w p.known at bytes) f (neighbors_of (cell_in w p.known at)) refl o _ _ _ m.meets;
+            meets = around-meets p flags w h count z at g left (cell_in w p.known at) refl (cell-words w p.known at bytes) f (neighbors_of (cell_in w p.known at)) refl cells o _ _ _ m.meets;
             bytes = m.bytes;
             heap-bytes = m.heap-bytes;
           }
@@ -355,10 +352,10 @@ module _ (p : Plan) (flags : List ℕ) (count : ℕ) where
         let size = good.size in
         popped-in h z.waiting heap-bytes good.heap (omega arith) some-wait
 
-    popped-simulates : (r : Found) → Looked w p.known z.known first.cell r → Simulates w h (popped_in p (rows_of 20 flags count) w h₁ z r) (step P (state_in p w h z))
+    popped-simulates : (r : Option ℕ) → Looked w p.known z.known first.cell r → Simulates w h (popped_in p (rows_of 20 flags count) w h₁ z r) (step P (state_in p w h z))
     unfolding row_in
-    popped-simulates found.Nowhere looked = absurd (advancing.never-nowhere p P w h h₁ z first good pop looked.1)
-    popped-simulates (found.At i) looked =
+    popped-simulates None looked = absurd (advancing.never-nowhere p P w h h₁ z first good pop looked.1)
+    popped-simulates (Some i) looked =
         let flow = step P (state_in p w h z) in
         let Right : After → Type 0 = λ (y : After). Simulates w h y flow in
         let g = g_in w p.known i in

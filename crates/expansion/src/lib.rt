@@ -17,9 +17,7 @@ ghost use Rattle.expansion.specs.Inner.Bytes.{Rooms, Fits, push_known_in, push_n
 ghost use Rattle.expansion.specs.Inner.Bytes.{advance_in, is_sized, enough, due_in, paused_in, pops_in, run_in, resume_in};
 ghost use Rattle.expansion.specs.Inner.Ready.{Entered, EnteredTo, ToKnown, ToNew, Unpaused};
 
-use distance::DistanceAnswer;
-use known::Found;
-use refusal::{Cell, Ends, Outcome, Refusal, Room, Spent};
+use refusal::{Cell, Ends, Refusal, Room, Spent};
 use waiting::Entry;
 
 // What is searched, and with what room.
@@ -49,13 +47,6 @@ pub enum Step {
     Arrived(Sizes),
 }
 
-// How far a cell is from the goal, by its bits.
-#[derive(Clone, Copy)]
-pub enum Estimate {
-    Bits(u64),
-    Refused(Refusal),
-}
-
 // ---- costs
 
 fn plus(a: u64, b: u64) -> u64
@@ -67,6 +58,7 @@ fn plus(a: u64, b: u64) -> u64
     float::bits(float::value(a) + float::value(b))
 }
 
+#[tactic(auto, using(search::proofs::Costs::step_is))]
 fn cost(a: Cell, b: Cell) -> u64
     ensures value { result ≡ to_bits binary64 (cost_between a b) }
     ensures cost { Cost result }
@@ -74,14 +66,11 @@ fn cost(a: Cell, b: Cell) -> u64
     float::bits(route::step_cost(a, b))
 }
 
-pub fn ahead(c: Cell, goal: Cell) -> Estimate
+pub fn ahead(c: Cell, goal: Cell) -> Result<u64, Refusal>
     ensures result_value { told_ahead result ≡ distance_bits (distance_cells c goal) }
     ensures sound_ahead { SoundAhead result }
 {
-    match cell::distance_to(c, goal) {
-        DistanceAnswer::Is(d) => Estimate::Bits(float::bits(d)),
-        DistanceAnswer::Refused(r) => Estimate::Refused(r),
-    }
+    Ok(float::bits(cell::distance_to(c, goal)?))
 }
 
 // ---- one neighbour
@@ -90,6 +79,7 @@ pub fn ahead(c: Cell, goal: Cell) -> Estimate
 const INFINITY: u64 = 0x7FF0_0000_0000_0000;
 
 // A shorter way to a known cell, that of record i, from the cell of record `at`.
+#[tactic(auto, unfolding(crate::specs::Inner::Bytes::push_known_in))]
 fn push_known(
     workspace: &mut [u8],
     heap: &mut [u8],
@@ -104,8 +94,8 @@ fn push_known(
 {
     let n = known::cell_at(workspace, plan.known, i);
     match ahead(n, plan.goal) {
-        Estimate::Refused(r) => Step::Stopped(r),
-        Estimate::Bits(h) => {
+        Err(r) => Step::Stopped(r),
+        Ok(h) => {
             if sizes.waiting >= plan.waiting {
                 return Step::Stopped(Refusal::NoRoom(Room::Waiting));
             }
@@ -122,6 +112,7 @@ fn push_known(
 }
 
 // A first way to a cell that is not known, from the cell of record `at`.
+#[tactic(auto, unfolding(crate::specs::Inner::Bytes::push_new_in))]
 fn push_new(
     workspace: &mut [u8],
     heap: &mut [u8],
@@ -135,8 +126,8 @@ fn push_new(
     ensures { (workspace.new, heap.new, result) ≡ push_new_in plan workspace.old heap.old sizes at n g }
 {
     match ahead(n, plan.goal) {
-        Estimate::Refused(r) => Step::Stopped(r),
-        Estimate::Bits(h) => {
+        Err(r) => Step::Stopped(r),
+        Ok(h) => {
             if sizes.waiting >= plan.waiting {
                 return Step::Stopped(Refusal::NoRoom(Room::Waiting));
             }
@@ -153,6 +144,7 @@ fn push_new(
 }
 
 // A way of cost t from the cell of record `at` to the cell n, which is known, in record i.
+#[tactic(auto, unfolding(crate::specs::Inner::Bytes::try_known_in))]
 fn try_known(
     workspace: &mut [u8],
     heap: &mut [u8],
@@ -183,6 +175,7 @@ fn try_known(
 }
 
 // The same to a cell that is not known.
+#[tactic(auto, unfolding(crate::specs::Inner::Bytes::try_new_in))]
 fn try_new(
     workspace: &mut [u8],
     heap: &mut [u8],
@@ -211,6 +204,7 @@ fn try_new(
 }
 
 // One neighbour of the cell c, that of record `at`, which has the cost g.
+#[tactic(auto, unfolding(crate::specs::Inner::Bytes::relax_in))]
 fn relax(
     workspace: &mut [u8],
     heap: &mut [u8],
@@ -229,8 +223,8 @@ fn relax(
 {
     let t = plus(g, cost(c, n));
     match search_rows::look(workspace, plan.known, sizes.known, n) {
-        Found::At(i) => try_known(workspace, heap, flags, count, plan, sizes, at, i, n, t),
-        Found::Nowhere => try_new(workspace, heap, flags, count, plan, sizes, at, n, t),
+        Some(i) => try_known(workspace, heap, flags, count, plan, sizes, at, i, n, t),
+        None => try_new(workspace, heap, flags, count, plan, sizes, at, n, t),
     }
 }
 
@@ -266,6 +260,7 @@ fn relax_all(
 // ---- one pop
 
 // The cell of record `at`, which was closed and counted and has the cost g: the limit, the goal, the neighbours.
+#[tactic(auto, unfolding(crate::specs::Inner::Bytes::entered_in))]
 fn enter(
     workspace: &mut [u8],
     heap: &mut [u8],
@@ -290,18 +285,14 @@ fn enter(
     if cell::same(c, plan.goal) {
         return Step::Arrived(sizes);
     }
-    let near = cell::get_neighbors(c);
-    let outcome = near.outcome;
-    match outcome {
-        Outcome::Refused(r) => Step::Stopped(r),
-        Outcome::Answered => {
-            let cells = near.cells;
-            relax_all(workspace, heap, flags, count, plan, sizes, at, c, g, cells)
-        }
+    match cell::get_neighbors(c) {
+        Ok(cells) => relax_all(workspace, heap, flags, count, plan, sizes, at, c, g, cells),
+        Err(r) => Step::Stopped(r),
     }
 }
 
 // The first of the entries that wait: skipped where its cell is closed, else the cell is closed and counted.
+#[tactic(auto, unfolding(crate::specs::Inner::Bytes::advance_in))]
 fn advance(
     workspace: &mut [u8],
     heap: &mut [u8],
@@ -324,7 +315,7 @@ fn advance(
     let left = sizes.waiting - 1;
     let c = first.cell;
     match search_rows::look(workspace, plan.known, sizes.known, c) {
-        Found::At(row) => {
+        Some(row) => {
             if search_rows::is_closed(workspace, plan.known, row) {
                 return Step::Going(Sizes {
                     known: sizes.known,
@@ -350,11 +341,12 @@ fn advance(
             enter(workspace, heap, flags, count, plan, closed, row, g)
         }
         // Every cell that waits is known, else these bytes cannot be searched on.
-        Found::Nowhere => Step::Stopped(Refusal::BadWorkspace),
+        None => Step::Stopped(Refusal::BadWorkspace),
     }
 }
 
 // Whether the next pop is no skip: an entry waits, and its cell is not closed.
+#[tactic(auto, unfolding(crate::specs::Inner::Bytes::due_in))]
 fn is_due(workspace: &[u8], heap: &[u8], plan: Plan, sizes: Sizes) -> bool
     requires { Fits plan workspace.now heap.now sizes }
     ensures { result ≡ due_in plan workspace.now heap.now sizes }
@@ -365,8 +357,8 @@ fn is_due(workspace: &[u8], heap: &[u8], plan: Plan, sizes: Sizes) -> bool
     let first = waiting::first(heap, sizes.waiting);
     let c = first.cell;
     match search_rows::look(workspace, plan.known, sizes.known, c) {
-        Found::At(row) => !search_rows::is_closed(workspace, plan.known, row),
-        Found::Nowhere => true,
+        Some(row) => !search_rows::is_closed(workspace, plan.known, row),
+        None => true,
     }
 }
 
@@ -407,6 +399,7 @@ fn pops(
 
 // A search until so many cells are closed and the next pop would close one more, or to the end. No more than 65,536 cells are ever closed: a larger
 // number is no bound.
+#[tactic(auto, unfolding(crate::specs::Inner::Bytes::run_in))]
 pub fn run(
     workspace: &mut [u8],
     heap: &mut [u8],
@@ -431,12 +424,11 @@ pub fn run(
 fn is_sized(plan: Plan, sizes: Sizes) -> bool
     ensures { result ≡ is_sized plan sizes }
 {
-    sizes.known <= plan.known
-        && sizes.waiting <= plan.waiting
-        && sizes.count <= sizes.known as u64
+    sizes.known <= plan.known && sizes.waiting <= plan.waiting && sizes.count <= sizes.known as u64
 }
 
 // The same with sizes that a caller kept, and may have altered.
+#[tactic(auto, unfolding(crate::specs::Inner::Bytes::resume_in))]
 pub fn resume(
     workspace: &mut [u8],
     heap: &mut [u8],

@@ -8,7 +8,7 @@ use Rattle.table.specs.Records.{rows_of}
 use Rattle.known.proofs.Seek.{found_below}
 use Rattle.search_rows.specs.Inner.Rows.{row_in}
 use Rattle.search.proofs.Costs.{cost-small}
-use Rattle.expansion.proofs.BytesLaws.{advance-none, advance-by, popped-skip, popped-bad, popped-all, popped-entered}
+use Rattle.expansion.proofs.BytesLaws.{advance-by, popped-entered}
 use Rattle.expansion.proofs.BytesKept.{fits-closed}
 use native.Mathlib.Omega.{arith}
 use Rattle.expansion.proofs.advance.Goals as goal
@@ -22,58 +22,28 @@ nought : (x : Bool) → bool_byte x ≤ 0 → x ≡ false
 nought true h = absurd (omega (arith, h))
 nought false h = refl
 
-pub returns-then-sizes-eq0 : goal.returns-then-sizes-eq0
-returns-then-sizes-eq0 c =
-    sym (advance-none c.args.plan (rows_of 20 c.args.flags.now c.args.count) c.args.workspace.now c.args.heap.now c.args.sizes c.if-sizes-eq0.true)
-
 pub is_closed-requires-clause-i_lt_room : goal.is_closed-requires-clause-i_lt_room
 is_closed-requires-clause-i_lt_room c =
     let args = c.args in
-    let below = found_below args.workspace.now args.plan.known args.sizes.known _ _ _ c.look.ensures c.in-At.is in
+    let below = found_below args.workspace.now args.plan.known args.sizes.known _ _ _ c.look.ensures c.in-Some.is in
     omega arith
-
-pub returns-then-is_closed : goal.returns-then-is_closed
-returns-then-is_closed c =
-    let args = c.args in
-    let rows = rows_of 20 args.flags.now args.count in
-    let shut : c.is_closed.result ≡ true = first_of (cc, grind (arith, positive)) in
-    sym (advance-by args.plan rows args.workspace.now args.heap.now args.sizes _ _ _ (omega (arith, c.if-sizes-eq0.false)) c.pop-first.ensures.0 c.pop-first.ensures.1 (rw c.in-At.is at c.look.ensures)
-    ∙ popped-skip args.plan rows args.workspace.now _ args.sizes _ (sym c.is_closed.ensures ∙ shut))
-
-pub returns-then-sizes : goal.returns-then-sizes
-returns-then-sizes c =
-    let args = c.args in
-    let opened : c.is_closed.result ≡ false = first_of (cc, grind (arith, nought)) in
-    let unclosed : (row_in args.workspace.now args.plan.known c.in-At.row).closed ≡ false = cc in
-    let rows = rows_of 20 args.flags.now args.count in
-    sym (advance-by args.plan rows args.workspace.now args.heap.now args.sizes _ _ _ (omega (arith, c.if-sizes-eq0.false)) c.pop-first.ensures.0 c.pop-first.ensures.1 (rw c.in-At.is at c.look.ensures)
-    ∙ popped-all args.plan rows args.workspace.now _ args.sizes _ unclosed c.if-sizes.true)
 
 pub g_at-g-requires-clause-i_lt_room : goal.g_at-g-requires-clause-i_lt_room
 g_at-g-requires-clause-i_lt_room c =
     let args = c.args in
-    let below = found_below args.workspace.now args.plan.known args.sizes.known _ _ _ c.look.ensures c.in-At.is in
+    let below = found_below args.workspace.now args.plan.known args.sizes.known _ _ _ c.look.ensures c.in-Some.is in
     omega arith
-
-pub returns-then-g-gt-INFINITY : goal.returns-then-g-gt-INFINITY
-returns-then-g-gt-INFINITY c =
-    let args = c.args in
-    let opened : c.is_closed.result ≡ false = first_of (cc, grind (arith, nought)) in
-    let unclosed : (row_in args.workspace.now args.plan.known c.in-At.row).closed ≡ false = cc in
-    let rows = rows_of 20 args.flags.now args.count in
-    sym (advance-by args.plan rows args.workspace.now args.heap.now args.sizes _ _ _ (omega (arith, c.if-sizes-eq0.false)) c.pop-first.ensures.0 c.pop-first.ensures.1 (rw c.in-At.is at c.look.ensures)
-    ∙ popped-bad args.plan rows args.workspace.now _ args.sizes _ unclosed c.if-sizes.false _ c.g_at-g.ensures c.if-g-gt-INFINITY.true)
 
 pub close_at-requires-clause-i_lt_room : goal.close_at-requires-clause-i_lt_room
 close_at-requires-clause-i_lt_room c =
     let args = c.args in
-    let below = found_below args.workspace.now args.plan.known args.sizes.known _ _ _ c.look.ensures c.in-At.is in
+    let below = found_below args.workspace.now args.plan.known args.sizes.known _ _ _ c.look.ensures c.in-Some.is in
     omega arith
 
 pub enter-requires : goal.enter-requires
 enter-requires c =
     let args = c.args in
-    let below = found_below args.workspace.now args.plan.known args.sizes.known _ _ _ c.look.ensures c.in-At.is in
+    let below = found_below args.workspace.now args.plan.known args.sizes.known _ _ _ c.look.ensures c.in-Some.is in
     let fits = fits-closed args.plan (rows_of 20 args.flags.now args.count) args.workspace.now args.heap.now _ _ args.sizes c.requires.fits c.if-sizes.false c.close_at.auto.workspace c.pop-first.auto.heap in
     record { fits = fits; sound = c.requires.count_value; cost = cost-small _ c.if-g-gt-INFINITY.false; row = below }
 
@@ -81,13 +51,8 @@ pub returns-else-g-gt-INFINITY : goal.returns-else-g-gt-INFINITY
 returns-else-g-gt-INFINITY c =
     let args = c.args in
     let opened : c.is_closed.result ≡ false = first_of (cc, grind (arith, nought)) in
-    let unclosed : (row_in args.workspace.now args.plan.known c.in-At.row).closed ≡ false = cc in
+    let unclosed : (row_in args.workspace.now args.plan.known c.in-Some.row).closed ≡ false = cc in
     let rows = rows_of 20 args.flags.now args.count in
     c.enter.ensures
-    ∙ sym (advance-by args.plan rows args.workspace.now args.heap.now args.sizes _ _ _ (omega (arith, c.if-sizes-eq0.false)) c.pop-first.ensures.0 c.pop-first.ensures.1 (rw c.in-At.is at c.look.ensures)
+    ∙ sym (advance-by args.plan rows args.workspace.now args.heap.now args.sizes _ _ _ (omega (arith, c.if-sizes-eq0.false)) c.pop-first.ensures.0 c.pop-first.ensures.1 (rw c.in-Some.is at c.look.ensures)
     ∙ popped-entered args.plan rows args.workspace.now _ args.sizes _ unclosed c.if-sizes.false _ c.g_at-g.ensures _ c.if-g-gt-INFINITY.false c.close_at.ensures)
-
-pub returns-in-Nowhere : goal.returns-in-Nowhere
-returns-in-Nowhere c =
-    let args = c.args in
-    sym (advance-by args.plan (rows_of 20 args.flags.now args.count) args.workspace.now args.heap.now args.sizes _ _ _ (omega (arith, c.if-sizes-eq0.false)) c.pop-first.ensures.0 c.pop-first.ensures.1 (rw c.in-Nowhere.is at c.look.ensures))

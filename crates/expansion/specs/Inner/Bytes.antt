@@ -1,7 +1,8 @@
 -- The steps of a search over its two buffers, whatever the bytes hold: what each function of the code leaves in them and answers. The text is that of search's Search.antt, sentence by
 -- sentence, with records for cells: w has the known cells, h the waiting entries. What cannot be searched on is BadWorkspace, where it is touched: sizes above their rooms, a waiting
 -- cell that no chain leads to, a popped cell whose g is a NaN or negative, a count that would pass the known cells. For contracts inside. Definitions only.
-use Rattle.std.specs.Prelude.{Bool, true, not, ◌&&◌, leb, ltb, eqb, length}
+use Rattle.refusal.specs.declared.Refusal.{Refusal}
+use Rattle.std.specs.Prelude.{Bool, true, not, ◌&&◌, leb, ltb, eqb, length, Result, Ok, Err, Option, Some, None}
 use Rattle.std.proofs.Math.Bool.{false, cond}
 use mathlib.Core.List.{List, [], ◌∷◌}
 use Prim.Native.Nat.{ℕ, zero, suc, ◌+◌, ◌-◌, ◌*◌, ◌≤◌}
@@ -9,8 +10,6 @@ use Rattle.std.specs.Float.Ieee.{binary64, to_bits}
 use Rattle.refusal.specs.declared.Cell.{Cell}
 use Rattle.refusal.specs.declared.Refusal.TheVariants.{SearchLimitExceeded, NoRoom, NoPathFound, BadWorkspace}
 use Rattle.refusal.specs.declared.Room.TheVariants as room
-use Rattle.refusal.specs.declared.Outcome.{Outcome}
-use Rattle.refusal.specs.declared.Outcome.TheVariants as outcome
 use Rattle.refusal.specs.Refusals.{raw_of}
 use Rattle.cell.specs.Cell.{neighbors_of, distance_cells}
 use Rattle.table.specs.Records.{Row}
@@ -18,8 +17,6 @@ use Rattle.route.specs.Route.{cost_between, is_shut}
 use Rattle.waiting.specs.declared.Entry.{Entry}
 use Rattle.waiting.specs.Inner.Entries.{entry_at}
 use Rattle.waiting.specs.Inner.Sift.{push_in, pop_in}
-use Rattle.known.specs.declared.Found.{Found}
-use Rattle.known.specs.declared.Found.TheVariants as found
 use Rattle.known.specs.Inner.Known.{Roomy, cell_in}
 use Rattle.known.specs.Inner.Seek.{find_in}
 use Rattle.known.specs.Inner.Workspace.{Room}
@@ -107,9 +104,9 @@ module _ (p : Plan) where
   -- ---- whether the next pop counts
 
   -- the cell is not closed, by the record that was found; one that no chain leads to is for the pop to refuse
-  abbrev pub is_open : List ℕ → Found → Bool
-  is_open w found.Nowhere = true
-  is_open w (found.At i) = not (row_in w p.known i).closed
+  abbrev pub is_open : List ℕ → Option ℕ → Bool
+  is_open w None = true
+  is_open w (Some i) = not (row_in w p.known i).closed
 
   -- it is no skip: an entry waits, and its cell is not closed
   unfoldable pub due_in : List ℕ → List ℕ → Sizes → Bool
@@ -137,9 +134,9 @@ module _ (p : Plan) (flags : List Row) where
       (cond (ltb t 0x7FF0_0000_0000_0000) (cond (ltb z.known p.known) (push_new_in p w h z at n t) (w, h, step.Stopped (NoRoom room.Known))) (w, h, step.Going z))
 
   -- a neighbour by the record that was found of it, if any
-  abbrev pub tried_in : List ℕ → List ℕ → Sizes → ℕ → Cell → ℕ → Found → After
-  tried_in w h z at n t (found.At i) = try_known_in w h z at i n t
-  tried_in w h z at n t found.Nowhere = try_new_in w h z at n t
+  abbrev pub tried_in : List ℕ → List ℕ → Sizes → ℕ → Cell → ℕ → Option ℕ → After
+  tried_in w h z at n t (Some i) = try_known_in w h z at i n t
+  tried_in w h z at n t None = try_new_in w h z at n t
 
   -- one neighbour, at the cost g of c and of the step to it
   unfoldable pub relax_in : ℕ → Cell → ℕ → Cell → List ℕ → List ℕ → Sizes → After
@@ -155,9 +152,9 @@ module _ (p : Plan) (flags : List Row) where
   -- ---- one pop
 
   -- "neighbour overflow"
-  abbrev pub around_in : List ℕ → List ℕ → Sizes → ℕ → Cell → ℕ → Outcome → List Cell → After
-  around_in w h z at c g (outcome.Refused r) cells = (w, h, step.Stopped r)
-  around_in w h z at c g outcome.Answered cells = relax_all_in at c g cells w h z
+  abbrev pub around_in : List ℕ → List ℕ → Sizes → ℕ → Cell → ℕ → Result (List Cell) Refusal → After
+  around_in w h z at c g (Err r) = (w, h, step.Stopped r)
+  around_in w h z at c g (Ok cells) = relax_all_in at c g cells w h z
 
   -- "limit, goal": the cell of record `at`, closed and counted
   unfoldable pub entered_in : List ℕ → List ℕ → Sizes → ℕ → ℕ → After
@@ -165,12 +162,12 @@ module _ (p : Plan) (flags : List Row) where
   entered_in w h z at g =
       cond (ltb p.limit z.count) (w, h, step.Stopped (SearchLimitExceeded (record { expansions = z.count; limit = p.limit })))
       (cond (eqb (raw_of (cell_in w p.known at)) (raw_of p.goal)) (w, h, step.Arrived z)
-      (around_in w h z at (cell_in w p.known at) g (neighbors_of (cell_in w p.known at)).outcome (neighbors_of (cell_in w p.known at)).cells))
+      (around_in w h z at (cell_in w p.known at) g (neighbors_of (cell_in w p.known at))))
 
   -- "skip if closed, count and close": the first entry was popped, and h is what it left
-  abbrev pub popped_in : List ℕ → List ℕ → Sizes → Found → After
-  popped_in w h z found.Nowhere = (w, h, step.Stopped BadWorkspace)
-  popped_in w h z (found.At i) =
+  abbrev pub popped_in : List ℕ → List ℕ → Sizes → Option ℕ → After
+  popped_in w h z None = (w, h, step.Stopped BadWorkspace)
+  popped_in w h z (Some i) =
       cond (row_in w p.known i).closed (w, h, step.Going (sizes_of z.known (z.waiting - 1) z.count))
       (cond (ltb z.count z.known)
       (cond (is_no_cost (g_in w p.known i)) (w, h, step.Stopped BadWorkspace) (entered_in (close_in w p.known i) h (sizes_of z.known (z.waiting - 1) (z.count + 1)) i (g_in w p.known i)))
