@@ -1,8 +1,9 @@
 -- How a search ends: what its last step shows is the definition's result, which is the same after however many pops.
+use Rattle.std.specs.Prelude.{Err, Option, Some, None}
 use mathlib.Core.Path.{◌≡◌, refl, sym, ap, ◌∙◌}
 use mathlib.Core.Bool.{true, true≢false}
 use mathlib.Core.List.{List, []}
-use mathlib.Core.Option.{Option, none, some}
+use mathlib.Core.Option.{Option as Maybe, none, some}
 use Prim.Native.Nat.{ℕ, ◌≤◌, ◌<◌}
 use native.Mathlib.Omega.{arith}
 use Rattle.refusal.specs.declared.Cell.{Cell}
@@ -13,18 +14,15 @@ use Rattle.words.specs.Word.{Bytes}
 use Rattle.cell.specs.Cell.{distance_cells}
 use Rattle.cell.specs.Terms.{Words}
 use Rattle.general.specs.Changed.{changed}
-use Rattle.known.specs.declared.Found.{Found}
-use Rattle.known.specs.declared.Found.TheVariants.{At, Nowhere}
 use Rattle.known.specs.Inner.Known.{cell_in}
 use Rattle.known.specs.Inner.Seek.{find_in}
 use Rattle.known.proofs.Seek.{found_below}
 use Rattle.search_rows.specs.Inner.Rows.{g_in, row_in, rows_in, Looked}
 use Rattle.search_rows.proofs.Looked.{looked-in}
-use Rattle.search.specs.Search.{Problem, OrRefused, KnownRow, Result, done, found, find, is_known, g_of, traced, arrived, run, begin}
+use Rattle.search.specs.Search.{Problem, OrRefused, KnownRow, SearchResult, done, found, find, is_known, g_of, traced, arrived, run, begin}
 use Rattle.search.specs.Plan.{plan_of, distance_bits, at_end, pops_for}
 use Rattle.search.proofs.Ending.{result-is}
 use Rattle.cell.proofs.Laws.{cell-raw}
-use Rattle.search.specs.declared.SearchAnswer.TheVariants as answer
 use Rattle.expansion.specs.declared.Plan.{Plan}
 use Rattle.expansion.specs.declared.Sizes.{Sizes}
 use Rattle.expansion.specs.declared.Step.{Step}
@@ -38,19 +36,19 @@ use Rattle.astar.proofs.WayLaws.{route-answered, way-back}
 -- ---- what the code answered
 
 module _ (p : Plan) (w l : List ℕ) {r : Step} where
-  pub end-stopped : (q : Refusal) → r ≡ steps.Stopped q → changed (answer.Refused q) l ≡ end_in p w r l
+  pub end-stopped : (q : Refusal) → r ≡ steps.Stopped q → changed (Err q) l ≡ end_in p w r l
   end-stopped q e = ap (λ (s : Step). end_in p w s l) (sym e)
 
-  pub end-going : (z : Sizes) → r ≡ steps.Going z → changed (answer.Refused BadWorkspace) l ≡ end_in p w r l
+  pub end-going : (z : Sizes) → r ≡ steps.Going z → changed (Err BadWorkspace) l ≡ end_in p w r l
   end-going z e = ap (λ (s : Step). end_in p w s l) (sym e)
 
   -- the goal was looked up
-  module _ (z : Sizes) (e : r ≡ steps.Arrived z) {x : Found} (looked : x ≡ find_in w p.known z.known p.goal) where
-    pub end-looked : {y : Found} → x ≡ y → goal_in p w z l y ≡ end_in p w r l
+  module _ (z : Sizes) (e : r ≡ steps.Arrived z) {x : Option ℕ} (looked : x ≡ find_in w p.known z.known p.goal) where
+    pub end-looked : {y : Option ℕ} → x ≡ y → goal_in p w z l y ≡ end_in p w r l
     end-looked same = ap (goal_in p w z l) (sym same ∙ looked) ∙ ap (λ (s : Step). end_in p w s l) (sym e)
 
     -- a record that is found is a known one
-    pub end-under : (i : ℕ) → x ≡ At i → i < z.known
+    pub end-under : (i : ℕ) → x ≡ Some i → i < z.known
     end-under i same = found_below w p.known z.known p.goal x i looked same
 
 -- ---- a search that has come to its goal
@@ -65,7 +63,7 @@ module _ (p : Plan) (flags w : List ℕ) (count : ℕ) (z : Sizes) where
   arrived-at i goal row = λ j. found (traced (raw_of p.start) z.count rows (raw_of (goal j)) []) (g_of (sym row j)) z.count
 
 -- where a row is found, one is
-never-unknown : {found : Option KnownRow} → is_known found ≡ true → found ≡ none → ⊥
+never-unknown : {found : Maybe KnownRow} → is_known found ≡ true → found ≡ none → ⊥
 never-unknown known nowhere = true≢false (sym known ∙ ap is_known nowhere)
 
 -- ---- the last step
@@ -95,12 +93,12 @@ end-shown p flags w count (steps.Stopped q) l ended bytes words = refl
 end-shown p flags w count (steps.Arrived z) l ended bytes words =
     by-found (find_in w p.known z.known p.goal) (looked-in w p.known z.known p.goal ended.0 bytes words)
   where
-    by-found : (x : Found) → Looked w p.known z.known p.goal x → goal_in p w z l x ≡ answered_in (shown (problem_of p flags count) p w (steps.Arrived z)) l
-    by-found Nowhere looked = absurd (never-unknown ended.1 looked.1)
-    by-found (At i) looked =
+    by-found : (x : Option ℕ) → Looked w p.known z.known p.goal x → goal_in p w z l x ≡ answered_in (shown (problem_of p flags count) p w (steps.Arrived z)) l
+    by-found None looked = absurd (never-unknown ended.1 looked.1)
+    by-found (Some i) looked =
         ap (λ (x : Option (List Cell)). route_in x (g_in w p.known i) z.count l) (way-back p w z.known ended.0 bytes z i refl looked.0)
         ∙ route-answered (way_to p w z i) (g_in w p.known i) z.count l
-        ∙ ap (λ (x : Result). answered_in x l) (arrived-at p flags w count z i looked.1 looked.2)
+        ∙ ap (λ (x : SearchResult). answered_in x l) (arrived-at p flags w count z i looked.1 looked.2)
 
 -- ---- the result
 
@@ -134,4 +132,4 @@ module _ (p : Plan) (flags : List ℕ) (count : ℕ) (words : Words p.start) (so
     -- what the bytes of the last step end in is the answer of the definition
     pub ran-answered : (l : List ℕ) → Bytes w → Words p.goal → end_in p w r l ≡ answered_in (at_end (run P (pops_for p.known p.waiting) (begin P told))) l
     ran-answered l bytes goal-words =
-        end-shown p flags w count r l (last-ended p w h r a.met.good a.last) bytes goal-words ∙ ap (λ (x : Result). answered_in x l) (sym ran-result)
+        end-shown p flags w count r l (last-ended p w h r a.met.good a.last) bytes goal-words ∙ ap (λ (x : SearchResult). answered_in x l) (sym ran-result)

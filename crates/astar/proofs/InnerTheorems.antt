@@ -1,8 +1,8 @@
 -- Theorems about functions that stand between crates, which C does not call: what docs/PROMISES.md says of the search's memory, in words of specs/Inner.
 -- The law behind each is the one that its proof names.
+use Rattle.std.specs.Prelude.{Some}
 use mathlib.Core.List.{List, map}
 use mathlib.Core.Path.{◌≡◌}
-use mathlib.Core.Option.{some}
 use Prim.Native.Nat.{ℕ, ◌<◌}
 use Rattle.words.specs.Word.{Bytes}
 use Rattle.cell.specs.Cell.{distance_cells}
@@ -33,7 +33,7 @@ begin-simulates = laws.BeginLaws.begin-simulates
 -- In a workspace with rows, the way back from a known record over the bytes has the cells that the definition traces.
 pub way-back :
     (p : Plan) (w : List ℕ) (n : ℕ) (rows : Rows w p.known n) (bytes : Bytes w) (z : Sizes) (i : ℕ) → n ≡ z.known → i < n
-    → way_back p w z i ≡ some (map cell_of (way_to p w z i))
+    → way_back p w z i ≡ Some (map cell_of (way_to p w z i))
 way-back = laws.WayLaws.way-back
 
 -- Where a search has ended, the answer and the output that the bytes give are those of the definition's result.

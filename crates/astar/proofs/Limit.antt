@@ -1,4 +1,5 @@
 -- A call of the search that is refused beyond its limit tells that limit, and one expansion more: of any bytes.
+use Rattle.std.specs.Prelude.{Ok, Err, Result}
 use mathlib.Core.Path.{◌≡◌, refl}
 use mathlib.Core.List.{List}
 use Prim.Native.Nat.{ℕ}
@@ -9,14 +10,12 @@ use Rattle.refusal.specs.declared.Cell.{Cell}
 use Rattle.refusal.specs.declared.Spent.{Spent}
 use Rattle.refusal.specs.declared.Refusal.{Refusal}
 use Rattle.refusal.specs.declared.Refusal.TheVariants.{SearchLimitExceeded, BadWorkspace, BadList, BadLayer, BadRule}
-use Rattle.cell.specs.declared.CellAnswer.{CellAnswer}
-use Rattle.cell.specs.declared.CellAnswer.TheVariants as cell
 use Rattle.cell.specs.Bytes.{cell_at, from_bytes_of}
 use Rattle.table.specs.Records.{rows_of, is_sound, layer}
 use Rattle.cell_list.specs.Listing.{room_in}
-use Rattle.search.specs.Search.{Result, found, none_found}
+use Rattle.search.specs.Search.{SearchResult, found, none_found}
 use Rattle.general.proofs.Tests.{whether}
-use Rattle.search.specs.declared.SearchAnswer.TheVariants as answer
+use Rattle.search.specs.declared.Route.{Route}
 use Rattle.search.specs.Terms.{OneBeyond}
 use Rattle.search.proofs.Limit.{limit-one-beyond}
 use Rattle.astar.specs.Answer.{answered_in}
@@ -25,23 +24,23 @@ use Rattle.search.specs.Plan.{endpoints}
 use Rattle.known.specs.Workspace.{in_rooms}
 
 -- bytes that are no cell are BadList
-bytes-refused : (l : List ℕ) {r : Refusal} → from_bytes_of l ≡ cell.Refused r → r ≡ BadList
+bytes-refused : (l : List ℕ) {r : Refusal} → from_bytes_of l ≡ Err r → r ≡ BadList
 unfolding from_bytes_of
 bytes-refused l {r} e = whether (eqb (length l) 16) (λ t. is-cell (rw t at e)) (λ t. is_none (rw t at e))
   where
-    is-cell : cell.Is (cell_at l 0) ≡ cell.Refused r → r ≡ BadList
+    is-cell : ◌≡◌ {A = Result Cell Refusal} (Ok (cell_at l 0)) (Err r) → r ≡ BadList
     is-cell f = cc
 
-    is_none : cell.Refused BadList ≡ cell.Refused r → r ≡ BadList
+    is_none : ◌≡◌ {A = Result Cell Refusal} (Err BadList) (Err r) → r ≡ BadList
     is_none f = cc
 
 -- a refusal of the call beyond the limit is one of the search
-said-refused : (q : Result) (l : List ℕ) (x : Spent) → (answered_in q l).said ≡ answer.Refused (SearchLimitExceeded x) → q ≡ none_found (SearchLimitExceeded x)
+said-refused : (q : SearchResult) (l : List ℕ) (x : Spent) → (answered_in q l).said ≡ Err (SearchLimitExceeded x) → q ≡ none_found (SearchLimitExceeded x)
 said-refused (none_found r) l x e = cc
 said-refused (found cells cost n) l x e = whether (leb (length cells) (room_in l)) (λ t. cc (rw t at e)) (λ t. cc (rw t at e))
 
 module _ (known waiting limit rule : ℕ) (flags : List ℕ) (n : ℕ) (x : Spent) where
-  abbrev Exceeded : Result → Type 0
+  abbrev Exceeded : SearchResult → Type 0
   Exceeded q = q ≡ none_found (SearchLimitExceeded x)
 
   under-limit : (s e : Cell) → Exceeded (found_in_layer (endpoints s e) (in_rooms known waiting) limit rule (layer flags n)) → OneBeyond limit x
@@ -62,19 +61,19 @@ module _ (known waiting limit rule : ℕ) (flags : List ℕ) (n : ℕ) (x : Spen
       bad-list : {r : Refusal} → r ≡ BadList → Exceeded (none_found r) → OneBeyond limit x
       bad-list b g = absurd (let z : ◌≡◌ {A = ℕ} 0 1 = cc in omega arith)
 
-      by-cells : (a b : CellAnswer) → from_bytes_of s ≡ a → from_bytes_of e ≡ b → Exceeded (found_from_bytes a b (in_rooms known waiting) limit rule (layer flags n)) → OneBeyond limit x
-      by-cells (cell.Refused r) b first second g = bad-list (bytes-refused s first) g
-      by-cells (cell.Is c) (cell.Refused r) first second g = bad-list (bytes-refused e second) g
-      by-cells (cell.Is c) (cell.Is d) first second g = under-limit c d g
+      by-cells : (a b : Result Cell Refusal) → from_bytes_of s ≡ a → from_bytes_of e ≡ b → Exceeded (found_from_bytes a b (in_rooms known waiting) limit rule (layer flags n)) → OneBeyond limit x
+      by-cells (Err r) b first second g = bad-list (bytes-refused s first) g
+      by-cells (Ok c) (Err r) first second g = bad-list (bytes-refused e second) g
+      by-cells (Ok c) (Ok d) first second g = under-limit c d g
 
 -- the start's and the goal's bytes, the rooms, the limit, the rule, the flag layer, the two workspaces and the output
 pub call-one-beyond : (s e : List ℕ) (known waiting limit rule : ℕ) (flags : List ℕ) (n : ℕ) (w h l : List ℕ) (x : Spent)
-    → (search_in (asking s e (in_rooms known waiting) limit rule (layer flags n)) (buffers w h l)).said ≡ answer.Refused (SearchLimitExceeded x) → OneBeyond limit x
+    → (search_in (asking s e (in_rooms known waiting) limit rule (layer flags n)) (buffers w h l)).said ≡ Err (SearchLimitExceeded x) → OneBeyond limit x
 unfolding search_in
 call-one-beyond s e known waiting limit rule flags n w h l x f =
     whether (has_rooms known waiting w h)
     (λ t. in-limit known waiting limit rule flags n x s e (said-refused (found_from_bytes (from_bytes_of s) (from_bytes_of e) (in_rooms known waiting) limit rule (layer flags n)) l x (rw t at f)))
     (λ t. bad-workspace (rw t at f))
   where
-    bad-workspace : answer.Refused BadWorkspace ≡ answer.Refused (SearchLimitExceeded x) → OneBeyond limit x
+    bad-workspace : ◌≡◌ {A = Result Route Refusal} (Err BadWorkspace) (Err (SearchLimitExceeded x)) → OneBeyond limit x
     bad-workspace g = absurd (let z : ◌≡◌ {A = ℕ} 0 1 = cc in omega arith)

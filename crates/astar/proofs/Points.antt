@@ -1,4 +1,6 @@
 -- Bytes that no search left, at the end of one, computed: one known cell, the cell 0, which is the goal, with room for no other.
+use Rattle.std.specs.Prelude.{Result, Ok, Err}
+use Rattle.search.specs.declared.Route.{Route}
 use mathlib.Core.Path.{◌≡◌, refl}
 use mathlib.Core.List.{List, ◌∷◌, ◌++◌}
 use Prim.Native.Nat.{ℕ}
@@ -11,8 +13,6 @@ use Rattle.words.specs.Word.{word, number, ordered}
 use Rattle.general.specs.Changed.{Changed, changed}
 use Rattle.known.specs.Inner.Known.{mixed_of, bucket_of, cell_in}
 use Rattle.known.specs.Inner.Seek.{seek_in, find_in}
-use Rattle.search.specs.declared.SearchAnswer.{SearchAnswer}
-use Rattle.search.specs.declared.SearchAnswer.TheVariants as answer
 use Rattle.expansion.specs.declared.Plan.{Plan}
 use Rattle.expansion.specs.declared.Step.TheVariants as step
 use Rattle.expansion.specs.Inner.Bytes.{sizes_of}
@@ -32,11 +32,11 @@ abbrev known : ℕ → ℕ → List ℕ
 known head before = (head ∷ replicate 35 0) ++ (before ∷ replicate 7 0)
 
 -- what is said, and an output of 16 bytes, where the search has come to its goal with one cell counted
-abbrev ends : Cell → ℕ → ℕ → Changed SearchAnswer
+abbrev ends : Cell → ℕ → ℕ → Changed (Result Route Refusal)
 ends start head before = end_in (plan_from start) (known head before) (step.Arrived (sizes_of 1 0 1)) (replicate 16 9)
 
-abbrev refused : Refusal → Changed SearchAnswer
-refused r = changed (answer.Refused r) (replicate 16 9)
+abbrev refused : Refusal → Changed (Result Route Refusal)
+refused r = changed (Err r) (replicate 16 9)
 
 pub record Altered : Type 0 where
   -- the number of the record before is no known record's
@@ -46,7 +46,7 @@ pub record Altered : Type 0 where
   -- a way back in a circle ends after as many steps as are counted, and is then too long
   pub circle : ends other 1 0 ≡ refused (NoRoom room.Output)
   -- a way back that has come to the start asks for nothing before it
-  pub start-found : (ends nought 1 7).said ≡ answer.Found (record { cells = 1; cost = 0; expansions = 1 })
+  pub start-found : (ends nought 1 7).said ≡ Ok (record { cells = 1; cost = 0; expansions = 1 })
 
 pub altered : Altered
 unfolding way_in find_in seek_in bucket_of mixed_of cell_in word number ordered

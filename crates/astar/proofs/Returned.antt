@@ -1,5 +1,6 @@
 -- Demand 3 of the bytes that a search writes: "Every route the search returns is accepted against the same ends, rule and layer." Where `search_in` says that a route was found, the checker
 -- gives verdict 0 to the front of the output, as many cells as are told (`returned-size`), at the cost that is told: `returned-accepted`. What that means, `returned-right` says.
+use Rattle.std.specs.Prelude.{Ok, Err, Result}
 use mathlib.Core.Path.{◌≡◌, refl, sym, ap, subst, ◌∙◌}
 use mathlib.Core.Bool.{Bool, true, false, cond}
 use mathlib.Core.List.{List, map, flat_map}
@@ -13,8 +14,6 @@ use Rattle.refusal.specs.declared.Refusal.{Refusal}
 use Rattle.refusal.specs.declared.Refusal.TheVariants.{NoRoom, BadWorkspace}
 use Rattle.refusal.specs.declared.Room.TheVariants.{Output}
 use Rattle.words.specs.Word.{Bytes}
-use Rattle.cell.specs.declared.CellAnswer.{CellAnswer}
-use Rattle.cell.specs.declared.CellAnswer.TheVariants as cell
 use Rattle.cell.specs.Bytes.{cell_bytes, from_bytes_of}
 use Rattle.cell.specs.Lists.{is_list}
 use Rattle.table.specs.Records.{Row, rows_of, is_sound, layer}
@@ -26,7 +25,7 @@ use Rattle.cell_list.proofs.ReadBack.{read_cell, cells-back, laid-front, cells-a
 use Rattle.route.specs.Route.{verdict_of, claim}
 use Rattle.route.specs.Accepted.{Demand3}
 use Rattle.route.proofs.DemandLaws.{accepted-is-right}
-use Rattle.search.specs.Search.{Result, found, none_found}
+use Rattle.search.specs.Search.{SearchResult, found, none_found}
 use Rattle.search.specs.Plan.{search_of, endpoints}
 use Rattle.refusal.specs.Refusals.{cell_of}
 use Rattle.known.specs.Workspace.{in_rooms}
@@ -34,13 +33,11 @@ use Rattle.search.proofs.Accepted.{found-accepted}
 use Rattle.search.proofs.Words.{found-words}
 use Rattle.search.specs.SearchOutcome.{searched}
 use Rattle.search.specs.declared.Route.{Route}
-use Rattle.search.specs.declared.SearchAnswer.{SearchAnswer}
-use Rattle.search.specs.declared.SearchAnswer.TheVariants as answer
 use Rattle.astar.specs.Answer.{answered_in}
 use Rattle.astar.specs.Call.{has_rooms, found_in_layer, found_from_bytes, wiped, search_in, asking, buffers}
 
 -- a refusal is no route
-not_found : {r : Refusal} {t : Route} → answer.Refused r ≡ answer.Found t → ⊥
+not_found : {r : Refusal} {t : Route} → ◌≡◌ {A = Result Route Refusal} (Err r) (Ok t) → ⊥
 not_found e = let z : ◌≡◌ {A = ℕ} 0 1 = cc in omega arith
 
 module _ (s e : List ℕ) (known waiting limit rule : ℕ) (flags : List ℕ) (n : ℕ) (l : List ℕ) (in_start : Bytes s) (in-goal : Bytes e) (t : Route) where
@@ -54,10 +51,10 @@ module _ (s e : List ℕ) (known waiting limit rule : ℕ) (flags : List ℕ) (n
     bytes : Bytes (take (16 * r.cells) out)
 
   -- what is said and what stands in the output
-  abbrev Returns : Changed SearchAnswer → Type 0
-  Returns a = a.said ≡ answer.Found t → Accepts a.bytes t
+  abbrev Returns : Changed (Result Route Refusal) → Type 0
+  Returns a = a.said ≡ Ok t → Accepts a.bytes t
 
-  module _ (c d : Cell) (start : from_bytes_of s ≡ cell.Is c) (goal : from_bytes_of e ≡ cell.Is d) where
+  module _ (c d : Cell) (start : from_bytes_of s ≡ Ok c) (goal : from_bytes_of e ≡ Ok d) where
     module _ (sound : is_sound 20 flags n ≡ true) (ruled : ltb rule 2 ≡ true) where
       laid-accepted : (cs : List ℕ) (cost expansions : ℕ) → search_of (endpoints c d) (in_rooms known waiting) limit rule rows ≡ found cs cost expansions
           → Accepts (cells_laid (map cell_of cs) l) (record { cells = length cs; cost = cost; expansions = expansions })
@@ -78,14 +75,14 @@ module _ (s e : List ℕ) (known waiting limit rule : ℕ) (flags : List ℕ) (n
             bytes = subst Bytes (sym front) (cells-are-bytes cells);
           }
 
-      result-accepted : (x : Result) → search_of (endpoints c d) (in_rooms known waiting) limit rule rows ≡ x → Returns (answered_in x l)
+      result-accepted : (x : SearchResult) → search_of (endpoints c d) (in_rooms known waiting) limit rule rows ≡ x → Returns (answered_in x l)
       result-accepted (none_found r) f said = absurd (not_found said)
       result-accepted (found cs cost expansions) f said = by-room (leb (length cs) (room_in l)) said
         where
           told : Route
           told = record { cells = length cs; cost = cost; expansions = expansions }
 
-          by-room : (b : Bool) → Returns (cond b (changed (answer.Found told) (cells_laid (map cell_of cs) l)) (changed (answer.Refused (NoRoom Output)) l))
+          by-room : (b : Bool) → Returns (cond b (changed (Ok told) (cells_laid (map cell_of cs) l)) (changed (Err (NoRoom Output)) l))
           by-room true g = let same : told ≡ t = cc in subst (Accepts (cells_laid (map cell_of cs) l)) same (laid-accepted cs cost expansions f)
           by-room false g = absurd (not_found g)
 
@@ -94,20 +91,20 @@ module _ (s e : List ℕ) (known waiting limit rule : ℕ) (flags : List ℕ) (n
     under-accepted true false sound ruled said = absurd (not_found (rw (sound, ruled) at said))
     under-accepted true true sound ruled said = rw (sound, ruled) (result-accepted sound ruled (search_of (endpoints c d) (in_rooms known waiting) limit rule rows) refl (rw (sound, ruled) at said))
 
-  cells-accepted : (a b : CellAnswer) → from_bytes_of s ≡ a → from_bytes_of e ≡ b → Returns (answered_in (found_from_bytes a b (in_rooms known waiting) limit rule (layer flags n)) l)
-  cells-accepted (cell.Refused r) b f g said = absurd (not_found said)
-  cells-accepted (cell.Is c) (cell.Refused r) f g said = absurd (not_found said)
-  cells-accepted (cell.Is c) (cell.Is d) f g said = under-accepted c d f g (is_sound 20 flags n) (ltb rule 2) refl refl said
+  cells-accepted : (a b : Result Cell Refusal) → from_bytes_of s ≡ a → from_bytes_of e ≡ b → Returns (answered_in (found_from_bytes a b (in_rooms known waiting) limit rule (layer flags n)) l)
+  cells-accepted (Err r) b f g said = absurd (not_found said)
+  cells-accepted (Ok c) (Err r) f g said = absurd (not_found said)
+  cells-accepted (Ok c) (Ok d) f g said = under-accepted c d f g (is_sound 20 flags n) (ltb rule 2) refl refl said
 
-  module _ (w h : List ℕ) (said : (search_in (asking s e (in_rooms known waiting) limit rule (layer flags n)) (buffers w h l)).said ≡ answer.Found t) where
+  module _ (w h : List ℕ) (said : (search_in (asking s e (in_rooms known waiting) limit rule (layer flags n)) (buffers w h l)).said ≡ Ok t) where
     call-accepted : Accepts (search_in (asking s e (in_rooms known waiting) limit rule (layer flags n)) (buffers w h l)).output t
     unfolding search_in
     call-accepted = by-rooms (has_rooms known waiting w h) said
       where
-        done : Changed SearchAnswer
+        done : Changed (Result Route Refusal)
         done = answered_in (found_from_bytes (from_bytes_of s) (from_bytes_of e) (in_rooms known waiting) limit rule (layer flags n)) l
 
-        by-rooms : (b : Bool) → let x = cond b (wiped done w h) (searched (answer.Refused BadWorkspace) w h l) in x.said ≡ answer.Found t → Accepts x.output t
+        by-rooms : (b : Bool) → let x = cond b (wiped done w h) (searched (Err BadWorkspace) w h l) in x.said ≡ Ok t → Accepts x.output t
         by-rooms true g = cells-accepted (from_bytes_of s) (from_bytes_of e) refl refl g
         by-rooms false g = absurd (not_found g)
 

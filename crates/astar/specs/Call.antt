@@ -2,18 +2,18 @@
 -- start = goal answers with cost 0.0, zero expansions, though mixed or blocked; parity of start, then goal; heuristic overflow." "The workspace of search and rings may hold anything at
 -- entry and is all zero at return, answered or refused; only BadWorkspace leaves it untouched." A known cell takes 44 bytes of the one buffer, and 64 bytes of it are a head for a search
 -- that is paused; a waiting entry takes 32 bytes of the other. Definitions only.
-use Rattle.std.specs.Prelude.{Bool, ◌&&◌, List, ℕ, ◌+◌, ◌*◌, leb, ltb, length}
+use Rattle.refusal.specs.declared.Cell.{Cell}
+use Rattle.refusal.specs.declared.Refusal.{Refusal}
+use Rattle.search.specs.declared.Route.{Route}
+use Rattle.std.specs.Prelude.{Bool, ◌&&◌, List, ℕ, ◌+◌, ◌*◌, leb, ltb, length, Err, Result}
 use Rattle.refusal.specs.declared.Refusal.TheVariants.{BadWorkspace, BadLayer, BadRule}
-use Rattle.cell.specs.declared.CellAnswer.{CellAnswer}
 use Rattle.cell.specs.Bytes.{from_bytes_of, by_cell}
 use Rattle.table.specs.Records.{rows_of, is_sound, flag_width, Layer}
 use Rattle.general.specs.Changed.{Changed}
 use Rattle.known.specs.Workspace.{is_room, zeros, known_width, WalkRooms}
-use Rattle.search.specs.Search.{Result, none_found}
+use Rattle.search.specs.Search.{SearchResult, none_found}
 use Rattle.search.specs.Plan.{search_of, endpoints}
 use Rattle.search.specs.SearchOutcome.{Searched, searched}
-use Rattle.search.specs.declared.SearchAnswer.{SearchAnswer}
-use Rattle.search.specs.declared.SearchAnswer.TheVariants as answer
 use Rattle.astar.specs.Answer.{answered_in}
 use Rattle.waiting.specs.Width.{entry_width}
 use Rattle.general.specs.Refuse.{refuse_unless}
@@ -32,18 +32,18 @@ unfoldable pub has_rooms : ℕ → ℕ → List ℕ → List ℕ → Bool
 has_rooms known waiting w h = (is_room known && is_room waiting) && (leb (known_width * known + reserved) (length w) && leb (entry_width * waiting) (length h))
 
 -- BadLayer, BadRule, then the search
-abbrev pub found_in_layer : Ends → WalkRooms → ℕ → ℕ → Layer → Result
+abbrev pub found_in_layer : Ends → WalkRooms → ℕ → ℕ → Layer → SearchResult
 found_in_layer ends rooms limit rule flags =
     refuse_unless (is_sound flag_width flags.table flags.count) (none_found BadLayer)
     (refuse_unless (ltb rule 2) (none_found BadRule)
     (search_of ends rooms limit rule (rows_of flag_width flags.table flags.count)))
 
 -- BadList of the start's bytes, then of the goal's
-abbrev pub found_from_bytes : CellAnswer → CellAnswer → WalkRooms → ℕ → ℕ → Layer → Result
+abbrev pub found_from_bytes : Result Cell Refusal → Result Cell Refusal → WalkRooms → ℕ → ℕ → Layer → SearchResult
 found_from_bytes start goal rooms limit rule flags = by_cell none_found (λ s. by_cell none_found (λ e. found_in_layer (endpoints s e) rooms limit rule flags) goal) start
 
 -- "is all zero at return, answered or refused"
-abbrev pub wiped : Changed SearchAnswer → List ℕ → List ℕ → Searched
+abbrev pub wiped : Changed (Result Route Refusal) → List ℕ → List ℕ → Searched
 wiped a w h = searched a.said (zeros w) (zeros h) a.bytes
 
 -- what a search is asked: the bytes of its ends, the rooms, the limit, the rule and the flag layer
@@ -73,5 +73,5 @@ buffers workspace heap output = record { workspace = workspace; heap = heap; out
 unfoldable pub search_in : Asking → Buffers → Searched
 unfolding has_rooms from_bytes_of is_sound rows_of search_of
 search_in a b =
-    refuse_unless (has_rooms a.rooms.known a.rooms.waiting b.workspace b.heap) (searched (answer.Refused BadWorkspace) b.workspace b.heap b.output)
+    refuse_unless (has_rooms a.rooms.known a.rooms.waiting b.workspace b.heap) (searched (Err BadWorkspace) b.workspace b.heap b.output)
     (wiped (answered_in (found_from_bytes (from_bytes_of a.start) (from_bytes_of a.goal) a.rooms a.limit a.rule a.flags) b.output) b.workspace b.heap)

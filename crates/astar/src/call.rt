@@ -17,12 +17,9 @@ ghost use Rattle.astar.specs.Call.{has_rooms, found_in_layer, found_from_bytes, 
 ghost use Rattle.astar.specs.Inner.Call.{Ready};
 
 use crate::way;
-use cell::CellAnswer;
-use expansion::{Estimate, Plan, Sizes, Step};
-use known::Found;
-use lattice::ParityAnswer;
+use expansion::{Plan, Sizes, Step};
 use refusal::{Cell, Refusal, Room};
-use search::{Route, SearchAnswer};
+use search::Route;
 use waiting::Entry;
 
 // The limit of a search that is given none.
@@ -32,6 +29,7 @@ const DEFAULT_LIMIT: u64 = 100_000;
 const RESERVED: usize = 64;
 
 // The start is known and waits.
+#[tactic(auto, unfolding(crate::specs::Inner::Bytes::begin_in))]
 fn begin(workspace: &mut [u8], heap: &mut [u8], plan: Plan) -> Step
     requires { Rooms plan.known plan.waiting workspace.old heap.old }
     ensures { (workspace.new, heap.new, result) ≡ begin_in plan workspace.old heap.old }
@@ -39,8 +37,8 @@ fn begin(workspace: &mut [u8], heap: &mut [u8], plan: Plan) -> Step
     let start = plan.start;
     let goal = plan.goal;
     match expansion::ahead(start, goal) {
-        Estimate::Refused(r) => Step::Stopped(r),
-        Estimate::Bits(h) => {
+        Err(r) => Step::Stopped(r),
+        Ok(h) => {
             search_rows::clear(workspace, plan.known);
             search_rows::append(workspace, plan.known, 0, start, 0, 0);
             waiting::push(
@@ -65,6 +63,7 @@ fn begin(workspace: &mut [u8], heap: &mut [u8], plan: Plan) -> Step
 const NO_BOUND: u64 = 0xFFFF_FFFF_FFFF_FFFF;
 
 // From the start to the last step.
+#[tactic(auto, unfolding(crate::specs::Inner::Bytes::whole_in))]
 fn run_from_start(
     workspace: &mut [u8],
     heap: &mut [u8],
@@ -84,22 +83,22 @@ fn run_from_start(
 }
 
 // What a search that has ended says.
-fn end(workspace: &[u8], plan: Plan, step: Step, output: &mut [u8]) -> SearchAnswer
+fn end(workspace: &[u8], plan: Plan, step: Step, output: &mut [u8]) -> Result<Route, Refusal>
     requires { SizedEnd plan workspace.now step }
     ensures { changed result output.new ≡ end_in plan workspace.now step output.old }
 {
     match step {
-        Step::Stopped(r) => SearchAnswer::Refused(r),
+        Step::Stopped(r) => Err(r),
         Step::Arrived(sizes) => {
             let goal = plan.goal;
             match search_rows::look(workspace, plan.known, sizes.known, goal) {
-                Found::At(i) => way::answer(workspace, plan, sizes, i, output),
+                Some(i) => way::answer(workspace, plan, sizes, i, output),
                 // The goal of a search that has come to it is known, else these bytes hold no search.
-                Found::Nowhere => SearchAnswer::Refused(Refusal::BadWorkspace),
+                None => Err(Refusal::BadWorkspace),
             }
         }
         // A search that goes on has not ended.
-        Step::Going(_) => SearchAnswer::Refused(Refusal::BadWorkspace),
+        Step::Going(_) => Err(Refusal::BadWorkspace),
     }
 }
 
@@ -111,7 +110,7 @@ fn between(
     count: usize,
     plan: Plan,
     output: &mut [u8],
-) -> SearchAnswer
+) -> Result<Route, Refusal>
     requires { Ready plan workspace.old heap.old flags.now count }
     ensures output_after { let P = problem_of plan flags.now count in
         let far = distance_bits (distance_cells plan.start plan.goal) in
@@ -124,14 +123,14 @@ fn between(
 }
 
 // A route of one cell, which costs nothing.
-fn stay(c: Cell, output: &mut [u8]) -> SearchAnswer
+fn stay(c: Cell, output: &mut [u8]) -> Result<Route, Refusal>
     ensures { changed result output.new ≡ answered_in (found (raw_of c ∷ []) 0 0) output.old }
 {
     if cell_list::room(output) == 0 {
-        return SearchAnswer::Refused(Refusal::NoRoom(Room::Output));
+        return Err(Refusal::NoRoom(Room::Output));
     }
     cell_list::put(output, 0, c);
-    SearchAnswer::Found(Route {
+    Ok(Route {
         cells: 1,
         cost: 0,
         expansions: 0,
@@ -139,6 +138,7 @@ fn stay(c: Cell, output: &mut [u8]) -> SearchAnswer
 }
 
 // The search between two cells.
+#[tactic(auto, unfolding(search::specs::Plan::search_of))]
 fn search(
     workspace: &mut [u8],
     heap: &mut [u8],
@@ -146,7 +146,7 @@ fn search(
     count: usize,
     plan: Plan,
     output: &mut [u8],
-) -> SearchAnswer
+) -> Result<Route, Refusal>
     requires { Ready plan workspace.old heap.old flags.now count }
     ensures output_after { let rows = rows_of flag_width flags.now count in
         let ends = endpoints plan.start plan.goal in
@@ -160,13 +160,9 @@ fn search(
     if cell::same(start, goal) {
         return stay(start, output);
     }
-    match lattice::parity_of(cell::coord(start)) {
-        ParityAnswer::Refused(r) => SearchAnswer::Refused(r),
-        ParityAnswer::Is(_) => match lattice::parity_of(cell::coord(goal)) {
-            ParityAnswer::Refused(r) => SearchAnswer::Refused(r),
-            ParityAnswer::Is(_) => between(workspace, heap, flags, count, plan, output),
-        },
-    }
+    lattice::parity_of(cell::coord(start))?;
+    lattice::parity_of(cell::coord(goal))?;
+    between(workspace, heap, flags, count, plan, output)
 }
 
 #[tactic(auto, unfolding(crate::specs::Call::has_rooms))]
@@ -187,7 +183,7 @@ fn search_in_layer(
     count: usize,
     plan: Plan,
     output: &mut [u8],
-) -> SearchAnswer
+) -> Result<Route, Refusal>
     requires { Rooms plan.known plan.waiting workspace.old heap.old }
     ensures output_after { let ends = endpoints plan.start plan.goal in
         let rooms = in_rooms plan.known plan.waiting in
@@ -197,10 +193,10 @@ fn search_in_layer(
     ensures heap_len_unchanged { length heap.new ≡ length heap.old }
 {
     if !table::is_sound(flags, table::FLAG_WIDTH, count) {
-        return SearchAnswer::Refused(Refusal::BadLayer);
+        return Err(Refusal::BadLayer);
     }
     if plan.rule >= 2 {
-        return SearchAnswer::Refused(Refusal::BadRule);
+        return Err(Refusal::BadRule);
     }
     search(workspace, heap, flags, count, plan, output)
 }
@@ -218,7 +214,7 @@ fn search_from(
     workspace: &mut [u8],
     heap: &mut [u8],
     output: &mut [u8],
-) -> SearchAnswer
+) -> Result<Route, Refusal>
     requires { Rooms known waiting workspace.old heap.old }
     ensures output_after { let s = from_bytes_of start.now in
         let e = from_bytes_of goal.now in
@@ -227,27 +223,22 @@ fn search_from(
     ensures workspace_len_unchanged { length workspace.new ≡ length workspace.old }
     ensures heap_len_unchanged { length heap.new ≡ length heap.old }
 {
-    match cell::from_bytes(start) {
-        CellAnswer::Refused(r) => SearchAnswer::Refused(r),
-        CellAnswer::Is(s) => match cell::from_bytes(goal) {
-            CellAnswer::Refused(r) => SearchAnswer::Refused(r),
-            CellAnswer::Is(e) => {
-                let plan = Plan {
-                    start: s,
-                    goal: e,
-                    known,
-                    waiting,
-                    limit,
-                    rule,
-                };
-                search_in_layer(workspace, heap, flags, count, plan, output)
-            }
-        },
-    }
+    let start = cell::from_bytes(start)?;
+    let goal = cell::from_bytes(goal)?;
+    let plan = Plan {
+        start,
+        goal,
+        known,
+        waiting,
+        limit,
+        rule,
+    };
+    search_in_layer(workspace, heap, flags, count, plan, output)
 }
 
 // The search, refused where it closes more cells than a limit. Both workspaces are zeroed when the call returns, whatever it answers, but for
 // workspaces that are too small.
+#[tactic(auto, unfolding(crate::specs::Call::search_in))]
 pub fn astar_with_limit(
     start: &[u8],
     goal: &[u8],
@@ -260,13 +251,13 @@ pub fn astar_with_limit(
     workspace: &mut [u8],
     heap: &mut [u8],
     output: &mut [u8],
-) -> SearchAnswer
+) -> Result<Route, Refusal>
     ensures { let asked = asking start.now goal.now (in_rooms known waiting) limit rule (layer flags.now count) in
         let lent = buffers workspace.old heap.old output.old in
         searched result workspace.new heap.new output.new ≡ search_in asked lent }
 {
     if !has_rooms(known, waiting, workspace, heap) {
-        return SearchAnswer::Refused(Refusal::BadWorkspace);
+        return Err(Refusal::BadWorkspace);
     }
     let answer = search_from(
         start, goal, known, waiting, limit, rule, flags, count, workspace, heap, output,
@@ -288,7 +279,7 @@ pub fn astar(
     workspace: &mut [u8],
     heap: &mut [u8],
     output: &mut [u8],
-) -> SearchAnswer
+) -> Result<Route, Refusal>
     ensures { let asked = asking start.now goal.now (in_rooms known waiting) default_limit rule (layer flags.now count) in
         let lent = buffers workspace.old heap.old output.old in
         searched result workspace.new heap.new output.new ≡ search_in asked lent }

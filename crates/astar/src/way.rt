@@ -5,17 +5,10 @@ ghost use Rattle.astar.specs.Inner.Bytes.{Sized, Writable, way_back, length_of, 
 
 use expansion::{Plan, Sizes};
 use refusal::{Refusal, Room};
-use search::{Route, SearchAnswer};
-
-// How many cells a route has, or that there is no way back.
-#[derive(Clone, Copy)]
-enum Length {
-    Cells(usize),
-    NoWay,
-}
+use search::Route;
 
 // How many cells the route to the cell of record i has.
-fn cells_to(workspace: &[u8], plan: Plan, sizes: Sizes, i: usize) -> Length
+fn cells_to(workspace: &[u8], plan: Plan, sizes: Sizes, i: usize) -> Option<usize>
     requires sized { Sized plan workspace.now sizes }
     requires i_lt_known { i < sizes.known }
     ensures { result ≡ length_of (way_back plan workspace.now sizes i) }
@@ -23,16 +16,16 @@ fn cells_to(workspace: &[u8], plan: Plan, sizes: Sizes, i: usize) -> Length
     let mut at = i;
     for passed in 0..sizes.count as usize {
         if cell::same(known::cell_at(workspace, plan.known, at), plan.start) {
-            return Length::Cells(passed + 1);
+            return Some(passed + 1);
         }
         let before = search_rows::before_at(workspace, plan.known, sizes.known, at);
         if before >= sizes.known {
             // No record has this number.
-            return Length::NoWay;
+            return None;
         }
         at = before;
     }
-    Length::Cells(sizes.count as usize + 1)
+    Some(sizes.count as usize + 1)
 }
 
 // The route to the cell of record i, so many cells, at the front of a buffer that holds it.
@@ -55,24 +48,22 @@ pub fn answer(
     sizes: Sizes,
     i: usize,
     output: &mut [u8],
-) -> SearchAnswer
+) -> Result<Route, Refusal>
     requires sized { Sized plan workspace.now sizes }
     requires i_lt_known { i < sizes.known }
     ensures { changed result output.new ≡ answer_in plan workspace.now sizes i output.old }
 {
-    match cells_to(workspace, plan, sizes, i) {
-        Length::NoWay => SearchAnswer::Refused(Refusal::BadWorkspace),
-        Length::Cells(cells) => {
-            if cells > cell_list::room(output) {
-                return SearchAnswer::Refused(Refusal::NoRoom(Room::Output));
-            }
-            let cost = search_rows::g_at(workspace, plan.known, i);
-            write(workspace, plan, sizes, i, cells, output);
-            SearchAnswer::Found(Route {
-                cells,
-                cost,
-                expansions: sizes.count,
-            })
-        }
+    let Some(cells) = cells_to(workspace, plan, sizes, i) else {
+        return Err(Refusal::BadWorkspace);
+    };
+    if cells > cell_list::room(output) {
+        return Err(Refusal::NoRoom(Room::Output));
     }
+    let cost = search_rows::g_at(workspace, plan.known, i);
+    write(workspace, plan, sizes, i, cells, output);
+    Ok(Route {
+        cells,
+        cost,
+        expansions: sizes.count,
+    })
 }

@@ -1,9 +1,11 @@
 -- Two answers that meet the contract of the start, of the run or of the end agree, and so do the bytes that they leave, whatever the bytes were.
+use Rattle.std.specs.Prelude.{Result}
+use Rattle.search.specs.declared.Route.{Route}
+use Rattle.refusal.specs.declared.Refusal.{Refusal}
 use mathlib.Core.Path.{ap, sym, ◌∙◌}
 use denote.Ref.{at_last}
 use Rattle.general.specs.OneAnswer.{OneAnswer, OneExit}
 use Rattle.general.specs.Changed.{Changed}
-use Rattle.search.specs.declared.SearchAnswer.{SearchAnswer}
 use Rattle.expansion.specs.Inner.Bytes.{After}
 use Rattle.astar.proofs.call as here
 
@@ -20,7 +22,7 @@ pub run-from-start-exit : OneExit 3 here.run_from_start.Kinds.ps here.run_from_s
 run-from-start-exit κs a z z' last last' p q = let same = p ∙ sym q in λ i. (at_last a.0 (same i).0, (at_last a.1.0 (same i).1, a.1.1))
 
 pub end-one : OneAnswer 2 here.end.Kinds.ps here.end.Kinds.r here.end.Reads.Post
-end-one κs a z z' e e' p q = ap (λ (r : Changed SearchAnswer). r.said) (p ∙ sym q)
+end-one κs a z z' e e' p q = ap (λ (r : Changed (Result Route Refusal)). r.said) (p ∙ sym q)
 
 pub end-exit : OneExit 2 here.end.Kinds.ps here.end.Kinds.r here.end.Reads.Post
 end-exit κs a z z' last last' p q = let same = p ∙ sym q in λ i. (a.0, (a.1.0, (a.1.1.0, (at_last a.1.1.1.0 (same i).bytes, tt))))

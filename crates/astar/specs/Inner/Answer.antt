@@ -3,7 +3,7 @@ use Rattle.std.specs.Prelude.{◌≡◌, true, List, [], ℕ}
 use Rattle.refusal.specs.declared.Refusal.TheVariants.{BadWorkspace}
 use Rattle.refusal.specs.Refusals.{raw_of}
 use Rattle.known.specs.Inner.Known.{cell_in}
-use Rattle.search.specs.Search.{Problem, state, Result, none_found, find, is_known, traced, arrived}
+use Rattle.search.specs.Search.{Problem, state, SearchResult, none_found, find, is_known, traced, arrived}
 use Rattle.search_rows.specs.Inner.Rows.{rows_in, Rows}
 use Rattle.expansion.specs.declared.Plan.{Plan}
 use Rattle.expansion.specs.declared.Sizes.{Sizes}
@@ -15,7 +15,7 @@ abbrev pub way_to : Plan → List ℕ → Sizes → ℕ → List ℕ
 way_to p w z i = traced (raw_of p.start) z.count (rows_in w p.known z.known) (raw_of (cell_in w p.known i)) []
 
 -- what the last step shows: the definition's result
-abbrev pub shown : Problem → Plan → List ℕ → Step → Result
+abbrev pub shown : Problem → Plan → List ℕ → Step → SearchResult
 shown P p w (step.Stopped r) = none_found r
 shown P p w (step.Arrived z) = arrived P (state (rows_in w p.known z.known) [] z.count)
 shown P p w (step.Going z) = none_found BadWorkspace

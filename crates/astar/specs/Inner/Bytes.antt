@@ -1,8 +1,9 @@
 -- The start, the run, the way back and the end of a search over its two buffers, whatever the bytes hold: what each function of the code leaves in them and answers. The text is that of
 -- the definition, with records for cells: w has the known cells, h the waiting entries. A way back that leads to no known record, and a goal that no chain leads to, are BadWorkspace.
 -- For contracts inside. Definitions only.
-use Rattle.std.specs.Prelude.{◌≡◌, cond, List, [], ◌∷◌, ℕ, zero, suc, ◌≤◌, ◌<◌, leb, ltb, length}
-use Rattle.std.proofs.Math.Option.{Option, none, some}
+use Rattle.search.specs.declared.Route.{Route}
+use Rattle.refusal.specs.declared.Refusal.{Refusal}
+use Rattle.std.specs.Prelude.{◌≡◌, cond, List, [], ◌∷◌, ℕ, zero, suc, ◌≤◌, ◌<◌, leb, ltb, length, Result, Ok, Err, Option, Some, None}
 use Rattle.refusal.specs.declared.Cell.{Cell}
 use Rattle.refusal.specs.declared.Room.TheVariants as room
 use Rattle.refusal.specs.declared.Refusal.TheVariants.{NoRoom, BadWorkspace}
@@ -13,22 +14,16 @@ use Rattle.table.specs.Records.{Row}
 use Rattle.general.specs.Changed.{Changed, changed}
 use Rattle.cell_list.specs.Listing.{room_in, cells_laid}
 use Rattle.waiting.specs.Inner.Sift.{push_in}
-use Rattle.known.specs.declared.Found.{Found}
-use Rattle.known.specs.declared.Found.TheVariants as found
 use Rattle.known.specs.Inner.Known.{Roomy, cell_in, clear_in}
 use Rattle.known.specs.Inner.Seek.{find_in}
 use Rattle.search_rows.specs.Inner.Rows.{g_in, before_in, append_in}
 use Rattle.search.specs.Search.{OrRefused, is, refused}
 use Rattle.search.specs.Plan.{distance_bits}
-use Rattle.search.specs.declared.SearchAnswer.{SearchAnswer}
-use Rattle.search.specs.declared.SearchAnswer.TheVariants as answer
 use Rattle.expansion.specs.declared.Plan.{Plan}
 use Rattle.expansion.specs.declared.Sizes.{Sizes}
 use Rattle.expansion.specs.declared.Step.{Step}
 use Rattle.expansion.specs.declared.Step.TheVariants as step
 use Rattle.expansion.specs.Inner.Bytes.{sizes_of, entry_to, After, and_then_in, run_in}
-use Rattle.astar.specs.declared.way.Length.{Length}
-use Rattle.astar.specs.declared.way.Length.TheVariants.{Cells, NoWay}
 
 -- ---- the start
 
@@ -56,50 +51,50 @@ whole_in p flags w h = let x = begin_in p w h in and_then_in x.0 x.1 x.2 (run_in
 -- the cells from the start to that of record `at`, and then `later`, in so many steps at most, with n known records; none where the number of the record before is no known one's
 unfoldable pub way_in : Plan → List ℕ → ℕ → ℕ → ℕ → List Cell → Option (List Cell)
 unfolding cell_in raw_of word
-way_in p w n zero at later = some (cell_in w p.known at ∷ later)
+way_in p w n zero at later = Some (cell_in w p.known at ∷ later)
 way_in p w n (suc m) at later =
     let c = cell_in w p.known at in
     let b = before_in w p.known at in
     let further = way_in p w n m b (c ∷ later) in
-    cond (same_cell c p.start) (some (c ∷ later)) (cond (ltb b n) further none)
+    cond (same_cell c p.start) (Some (c ∷ later)) (cond (ltb b n) further None)
 
 -- the cells from the start to that of record i
 abbrev pub way_back : Plan → List ℕ → Sizes → ℕ → Option (List Cell)
 way_back p w z i = way_in p w z.known z.count i []
 
 -- how many they are
-abbrev pub length_of : Option (List Cell) → Length
-length_of none = NoWay
-length_of (some cs) = Cells (length cs)
+abbrev pub length_of : Option (List Cell) → Option ℕ
+length_of None = None
+length_of (Some cs) = Some (length cs)
 
 -- what stands in the output once they are written
 abbrev pub laid_in : Option (List Cell) → List ℕ → List ℕ
-laid_in none l = l
-laid_in (some cs) l = cells_laid cs l
+laid_in None l = l
+laid_in (Some cs) l = cells_laid cs l
 
 -- the answer and the output: BadWorkspace where there is no way, NoRoom 3 where it is too long; g is its cost, n the number of expansions
-abbrev pub route_in : Option (List Cell) → ℕ → ℕ → List ℕ → Changed SearchAnswer
-route_in none g n l = changed (answer.Refused BadWorkspace) l
-route_in (some cs) g n l =
-    cond (leb (length cs) (room_in l)) (changed (answer.Found (record { cells = length cs; cost = g; expansions = n })) (cells_laid cs l))
-    (changed (answer.Refused (NoRoom room.Output)) l)
+abbrev pub route_in : Option (List Cell) → ℕ → ℕ → List ℕ → Changed (Result Route Refusal)
+route_in None g n l = changed (Err BadWorkspace) l
+route_in (Some cs) g n l =
+    cond (leb (length cs) (room_in l)) (changed (Ok (record { cells = length cs; cost = g; expansions = n })) (cells_laid cs l))
+    (changed (Err (NoRoom room.Output)) l)
 
 -- a search that has come to the cell of record i
-abbrev pub answer_in : Plan → List ℕ → Sizes → ℕ → List ℕ → Changed SearchAnswer
+abbrev pub answer_in : Plan → List ℕ → Sizes → ℕ → List ℕ → Changed (Result Route Refusal)
 answer_in p w z i l = route_in (way_back p w z i) (g_in w p.known i) z.count l
 
 -- ---- the end
 
 -- the way back from the goal's record; BadWorkspace where the goal is not found
-abbrev pub goal_in : Plan → List ℕ → Sizes → List ℕ → Found → Changed SearchAnswer
-goal_in p w z l (found.At i) = answer_in p w z i l
-goal_in p w z l found.Nowhere = changed (answer.Refused BadWorkspace) l
+abbrev pub goal_in : Plan → List ℕ → Sizes → List ℕ → Option ℕ → Changed (Result Route Refusal)
+goal_in p w z l (Some i) = answer_in p w z i l
+goal_in p w z l None = changed (Err BadWorkspace) l
 
 -- a refusal, or the goal; BadWorkspace where the search goes on
-abbrev pub end_in : Plan → List ℕ → Step → List ℕ → Changed SearchAnswer
-end_in p w (step.Stopped r) l = changed (answer.Refused r) l
+abbrev pub end_in : Plan → List ℕ → Step → List ℕ → Changed (Result Route Refusal)
+end_in p w (step.Stopped r) l = changed (Err r) l
 end_in p w (step.Arrived z) l = goal_in p w z l (find_in w p.known z.known p.goal)
-end_in p w (step.Going z) l = changed (answer.Refused BadWorkspace) l
+end_in p w (step.Going z) l = changed (Err BadWorkspace) l
 
 -- ---- what is asked: lengths and bounds alone
 
@@ -119,5 +114,5 @@ SizedEnd p w (step.Going z) = Unit {0}
 pub record Writable (p : Plan) (w : List ℕ) (z : Sizes) (i cells : ℕ) (output : List ℕ) : Type 0 where
   pub sized : Sized p w z
   pub below : i < z.known
-  pub long : length_of (way_back p w z i) ≡ Cells cells
+  pub long : length_of (way_back p w z i) ≡ Some cells
   pub room : cells ≤ room_in output
