@@ -1,5 +1,6 @@
 -- What follows of a line: differences that are short fit 32 bits; the cells after the last one, sample by sample, as a loop meets them; and how many cells there are at most.
-use mathlib.Core.Path.{◌≡◌, refl, sym, ap, ◌∙◌}
+use Rattle.std.specs.Prelude.{Option, Some, None}
+use mathlib.Core.Path.{◌≡◌, sym, ap, ◌∙◌}
 use mathlib.Core.Bool.{Bool, true, false, cond}
 use mathlib.Core.List.{List, [], ◌∷◌}
 use Prim.Native.Nat.{ℕ, zero, suc, ◌+◌, ◌-◌, ◌≤◌, ◌<◌}
@@ -13,19 +14,14 @@ use Rattle.distance.specs.Distance.{differences_fit}
 use Rattle.distance.proofs.Laws.{differences-fit}
 use Rattle.cell.specs.Cell.{same_cell}
 use Rattle.line.specs.declared.Line.{Line}
-use Rattle.line.specs.declared.Sample.{Sample}
-use Rattle.line.specs.declared.Sample.TheVariants.{New, Dropped}
 use Rattle.line.specs.Line.{apart, are_short, sampled, ending, following, cells_after, cells_along}
 
 -- ---- the differences
 
 -- the test is that of the distance from the end to the start
-pub short-as-distance : (s e : Coord) → differences_fit e s ≡ are_short (apart s e)
-unfolding are_short differences_fit
-short-as-distance s e = refl
-
 pub short-fits : (s e : Coord) → are_short (apart s e) ≡ true → Fitting (apart s e)
-short-fits s e h = differences-fit e s (short-as-distance s e ∙ h)
+unfolding are_short differences_fit
+short-fits s e h = differences-fit e s h
 
 -- ---- the cells after the last one
 
@@ -45,11 +41,11 @@ from-sample l last i h =
     ap (cells_after l last i) more
     ∙ ap (λ (j : ℕ). following (sampled l last i) last (λ c. cells_after l c j (l.steps + 1 - (i + 1)))) (sym (add-one i))
 
-pub after-dropped : (l : Line) (last : Cell) (i : ℕ) → i ≤ l.steps → sampled l last i ≡ Dropped → cells_from l last i ≡ cells_from l last (i + 1)
-after-dropped l last i h e = from-sample l last i h ∙ ap (λ (s : Sample). following s last (λ c. cells_from l c (i + 1))) e
+pub after-dropped : (l : Line) (last : Cell) (i : ℕ) → i ≤ l.steps → sampled l last i ≡ None → cells_from l last i ≡ cells_from l last (i + 1)
+after-dropped l last i h e = from-sample l last i h ∙ ap (λ (s : Option Cell). following s last (λ c. cells_from l c (i + 1))) e
 
-pub after-new : (l : Line) (last : Cell) (i : ℕ) {c : Cell} → i ≤ l.steps → sampled l last i ≡ New c → cells_from l last i ≡ c ∷ cells_from l c (i + 1)
-after-new l last i h e = from-sample l last i h ∙ ap (λ (s : Sample). following s last (λ c. cells_from l c (i + 1))) e
+pub after-new : (l : Line) (last : Cell) (i : ℕ) {c : Cell} → i ≤ l.steps → sampled l last i ≡ Some c → cells_from l last i ≡ c ∷ cells_from l c (i + 1)
+after-new l last i h e = from-sample l last i h ∙ ap (λ (s : Option Cell). following s last (λ c. cells_from l c (i + 1))) e
 
 -- behind the last sample
 pub after-samples : (l : Line) (last : Cell) (i : ℕ) → l.steps < i → cells_from l last i ≡ ending l last
@@ -70,9 +66,9 @@ unfolding cells_after
 length-after l zero i last = length-ending l last
 length-after l (suc m) i last = by-sample (sampled l last i) (length-after l m (suc i))
   where
-    by-sample : (s : Sample) → ((c : Cell) → length (cells_after l c (suc i) m) ≤ m + 1) → length (following s last (λ c. cells_after l c (suc i) m)) ≤ suc m + 1
-    by-sample Dropped h = omega (arith, h last)
-    by-sample (New c) h = omega (arith, h c)
+    by-sample : (s : Option Cell) → ((c : Cell) → length (cells_after l c (suc i) m) ≤ m + 1) → length (following s last (λ c. cells_after l c (suc i) m)) ≤ suc m + 1
+    by-sample None h = omega (arith, h last)
+    by-sample (Some c) h = omega (arith, h c)
 
 -- one for the start, one for the end, and at most one a sample
 pub length-along : (l : Line) → length (cells_along l) ≤ l.steps + 2

@@ -1,25 +1,21 @@
 -- "`trace_line`: equal ends give one cell; then parity of start, of end; then CoordOverflow. Steps = 2 * largest absolute difference; sample i uses t = i/steps, coordinate s + t*d,
 -- snapped at 0; an OutOfRange sample is skipped. A cell equal to the one before is dropped; the end is appended if not last." As in path.rs the samples go from 1 to the steps, a
 -- difference is end less start, and a sampled cell is plain and has the start's frame and resolution. Each float operation rounds once. Definitions only.
-use Rattle.std.specs.Prelude.{Bool, true, false, cond, ◌&&◌, List, [], ◌∷◌, ℕ, zero, suc, ◌*◌, max, ℤ, pos, nat_abs, ◌-ℤ◌, Float}
+use Rattle.std.specs.Prelude.{Bool, true, false, cond, ◌&&◌, List, [], ◌∷◌, ℕ, zero, suc, ◌*◌, max, ℤ, pos, nat_abs, ◌-ℤ◌, Float, Result, Ok, Err, Option, Some, None}
 use Rattle.std.specs.Float.{binary64}
 use Rattle.std.specs.Float.Ieee.{of_int, add, mul, div}
 use Rattle.refusal.specs.declared.Cell.{Cell}
 use Rattle.refusal.specs.declared.Coord.{Coord}
+use Rattle.refusal.specs.declared.Refusal.{Refusal}
 use Rattle.refusal.specs.declared.Refusal.TheVariants.{CoordOverflow}
-use Rattle.lattice.specs.declared.CoordAnswer.{CoordAnswer}
-use Rattle.lattice.specs.declared.CoordAnswer.TheVariants as coord
 use Rattle.lattice.specs.Lattice.{at, parity_of, on_parities, fits32}
 use Rattle.snap.specs.declared.Point.{Point}
 use Rattle.snap.specs.Snap.{point, snap_of}
 use Rattle.cell.specs.Cell.{frame_of, resolution_of, coord_of, same_cell, plain_at}
 use Rattle.cell.specs.Bytes.{from_bytes_of, on_cells}
 use Rattle.general.specs.Changed.{Changed}
-use Rattle.refusal.specs.declared.CountAnswer.{CountAnswer}
 use Rattle.cell_list.specs.Listing.{Listing, cells, refused, listed_in}
 use Rattle.line.specs.declared.Line.{Line}
-use Rattle.line.specs.declared.Sample.{Sample}
-use Rattle.line.specs.declared.Sample.TheVariants.{New, Dropped}
 use Rattle.general.specs.Refuse.{refuse_if}
 
 -- ---- the differences
@@ -58,14 +54,14 @@ unfolding of_int div
 fraction_of i n = div binary64 (of_int binary64 (pos i)) (of_int binary64 (pos n))
 
 -- a sample that is OutOfRange or the cell before again is dropped, any other is a new cell
-abbrev pub sampled_as : Line → Cell → CoordAnswer → Sample
-sampled_as l last (coord.Refused r) = Dropped
-sampled_as l last (coord.At c) =
+abbrev pub sampled_as : Line → Cell → Result Coord Refusal → Option Cell
+sampled_as l last (Err r) = None
+sampled_as l last (Ok c) =
     let next = plain_at (frame_of l.start) (resolution_of l.start) c in
-    cond (same_cell next last) Dropped (New next)
+    cond (same_cell next last) None (Some next)
 
 -- sample i, where the last cell of the list is given
-unfoldable pub sampled : Line → Cell → ℕ → Sample
+unfoldable pub sampled : Line → Cell → ℕ → Option Cell
 unfolding sample_point fraction_of snap_of
 sampled l last i = sampled_as l last (snap_of (sample_point l (fraction_of i l.steps)) 0)
 
@@ -76,9 +72,9 @@ abbrev pub ending : Line → Cell → List Cell
 ending l last = cond (same_cell last l.end) [] (l.end ∷ [])
 
 -- what a sample adds, and what follows the cell that is last then
-abbrev pub following : Sample → Cell → (Cell → List Cell) → List Cell
-following Dropped last rest = rest last
-following (New c) last rest = c ∷ rest c
+abbrev pub following : Option Cell → Cell → (Cell → List Cell) → List Cell
+following None last rest = rest last
+following (Some c) last rest = c ∷ rest c
 
 -- the cells after the last one: those of m samples from sample i on, and the end
 unfoldable pub cells_after : Line → Cell → ℕ → ℕ → List Cell
@@ -106,6 +102,6 @@ line_of s e =
     (on_parities refused (λ p q. line_short (are_short (line_between s e).by) (line_between s e)) (parity_of (coord_of s)) (parity_of (coord_of e)))
 
 -- the line between the cells of two lists of bytes, listed in a buffer
-unfoldable pub trace_in : List ℕ → List ℕ → List ℕ → Changed CountAnswer
+unfoldable pub trace_in : List ℕ → List ℕ → List ℕ → Changed (Result ℕ Refusal)
 unfolding from_bytes_of line_of
 trace_in s e l = listed_in (on_cells refused line_of s e) l

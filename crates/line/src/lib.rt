@@ -9,9 +9,7 @@ ghost use Rattle.line.specs.Line.{apart, are_short, line_short, steps_of, line_b
 ghost use Rattle.line.specs.Line.{line_of, trace_in};
 ghost use Rattle.line.specs.Inner.Steps.{most_steps};
 
-use cell::CellAnswer;
-use lattice::{CoordAnswer, ParityAnswer};
-use refusal::{Cell, Coord, CountAnswer, Refusal, Room};
+use refusal::{Cell, Coord, Refusal, Room};
 use snap::Point;
 
 // Two ends, the place of the start, the differences to the end, and the number of samples.
@@ -24,14 +22,8 @@ pub struct Line {
     pub steps: u64,
 }
 
-// What a sample adds to the list: a cell, or nothing.
-#[derive(Clone, Copy)]
-pub enum Sample {
-    New(Cell),
-    Dropped,
-}
-
 // One coordinate at a fraction of the way.
+#[tactic(auto, unfolding(crate::specs::Line::sample_of))]
 fn coordinate_at(from: i32, by: i32, t: f64) -> f64
     ensures { result ≡ sample_of from by t }
 {
@@ -39,6 +31,7 @@ fn coordinate_at(from: i32, by: i32, t: f64) -> f64
 }
 
 // The point at a fraction of the way.
+#[tactic(auto, unfolding(crate::specs::Line::sample_point))]
 fn point_at(line: Line, t: f64) -> Point
     ensures { result ≡ sample_point line t }
 {
@@ -50,6 +43,7 @@ fn point_at(line: Line, t: f64) -> Point
 }
 
 // How much of the way sample i has gone.
+#[tactic(auto, unfolding(crate::specs::Line::fraction_of))]
 fn fraction(i: u64, steps: u64) -> f64
     requires i_le_most_steps { i ≤ most_steps }
     requires steps_le_most_steps { steps ≤ most_steps }
@@ -59,28 +53,24 @@ fn fraction(i: u64, steps: u64) -> f64
 }
 
 // What sample i adds to a list that ends with `last`.
-fn sampled(line: Line, last: Cell, i: u64) -> Sample
+#[tactic(auto, unfolding(crate::specs::Line::sampled))]
+fn sampled(line: Line, last: Cell, i: u64) -> Option<Cell>
     requires i_le_most_steps { i ≤ most_steps }
     requires steps_le_most_steps { line.steps ≤ most_steps }
     ensures { result ≡ sampled line last i }
 {
-    let place = snap::physical_to_lattice(point_at(line, fraction(i, line.steps)), 0);
-    match place {
-        CoordAnswer::Refused(_) => Sample::Dropped,
-        CoordAnswer::At(c) => {
-            let next = cell::packed(
-                cell::frame(line.start),
-                cell::resolution(line.start),
-                c,
-                0,
-                0,
-            );
-            if cell::same(next, last) {
-                Sample::Dropped
-            } else {
-                Sample::New(next)
-            }
-        }
+    let place = snap::physical_to_lattice(point_at(line, fraction(i, line.steps)), 0).ok()?;
+    let next = cell::packed(
+        cell::frame(line.start),
+        cell::resolution(line.start),
+        place,
+        0,
+        0,
+    );
+    if cell::same(next, last) {
+        None
+    } else {
+        Some(next)
     }
 }
 
@@ -95,7 +85,7 @@ fn fits(line: Line, room: usize) -> bool
         if left == 0 {
             return false;
         }
-        if let Sample::New(c) = sampled(line, last, i) {
+        if let Some(c) = sampled(line, last, i) {
             last = c;
             left -= 1;
         }
@@ -118,7 +108,7 @@ fn write(line: Line, output: &mut [u8]) -> usize
     let mut last = line.start;
     let mut count = 1;
     for i in 1..=line.steps {
-        if let Sample::New(c) = sampled(line, last, i) {
+        if let Some(c) = sampled(line, last, i) {
             cell_list::put(output, count, c);
             last = c;
             count += 1;
@@ -140,34 +130,36 @@ fn has_room(line: Line, room: usize) -> bool
 }
 
 // The list into a buffer. Its room is tested before a cell is written, so that a refusal leaves the buffer as it was.
-fn listed(line: Line, output: &mut [u8]) -> CountAnswer
+fn listed(line: Line, output: &mut [u8]) -> Result<usize, Refusal>
     requires { line.steps ≤ most_steps }
     ensures { changed result output.new ≡ listed_in (cells (cells_along line)) output.old }
 {
-    if has_room(line, cell_list::room(output)) {
-        return CountAnswer::Cells(write(line, output));
+    if !has_room(line, cell_list::room(output)) {
+        return Err(Refusal::NoRoom(Room::Output));
     }
-    CountAnswer::Refused(Refusal::NoRoom(Room::Output))
+    Ok(write(line, output))
 }
 
 // One cell into a buffer.
-fn single(c: Cell, output: &mut [u8]) -> CountAnswer
+fn single(c: Cell, output: &mut [u8]) -> Result<usize, Refusal>
     ensures { changed result output.new ≡ listed_in (cells (c ∷ [])) output.old }
 {
     if cell_list::room(output) == 0 {
-        return CountAnswer::Refused(Refusal::NoRoom(Room::Output));
+        return Err(Refusal::NoRoom(Room::Output));
     }
     cell_list::put(output, 0, c);
-    CountAnswer::Cells(1)
+    Ok(1)
 }
 
 // Whether the differences have 32 bits.
+#[tactic(auto, unfolding(crate::specs::Line::are_short, distance::specs::Distance::differences_fit))]
 fn are_short(from: Coord, to: Coord) -> bool
     ensures { result ≡ are_short (apart from to) }
 {
     distance::differences_fit(to, from)
 }
 
+#[tactic(auto, unfolding(crate::specs::Line::are_short))]
 fn differences(from: Coord, to: Coord) -> Coord
     requires { are_short (apart from to) ≡ true }
     ensures { result ≡ apart from to }
@@ -180,6 +172,7 @@ fn differences(from: Coord, to: Coord) -> Coord
 }
 
 // Twice the largest difference.
+#[tactic(auto, unfolding(crate::specs::Line::steps_of))]
 fn steps(by: Coord) -> u64
     ensures { (result ≡ steps_of by) × (result ≤ most_steps) }
 {
@@ -190,57 +183,45 @@ fn steps(by: Coord) -> u64
 }
 
 // The line between two cells of one parity each that are not the same, or CoordOverflow.
-fn stretched(start: Cell, end: Cell, output: &mut [u8]) -> CountAnswer
+fn stretched(start: Cell, end: Cell, output: &mut [u8]) -> Result<usize, Refusal>
     ensures { changed result output.new
         ≡ listed_in (line_short (are_short (apart (coord_of start) (coord_of end))) (line_between start end)) output.old }
 {
     let from = cell::coord(start);
     let to = cell::coord(end);
-    if are_short(from, to) {
-        let by = differences(from, to);
-        return listed(
-            Line {
-                start,
-                end,
-                from,
-                by,
-                steps: steps(by),
-            },
-            output,
-        );
+    if !are_short(from, to) {
+        return Err(Refusal::CoordOverflow);
     }
-    CountAnswer::Refused(Refusal::CoordOverflow)
+    let by = differences(from, to);
+    let line = Line {
+        start,
+        end,
+        from,
+        by,
+        steps: steps(by),
+    };
+    listed(line, output)
 }
 
 // The line between two cells: equal ends, then the parity of either, then how far they are apart.
-fn between(start: Cell, end: Cell, output: &mut [u8]) -> CountAnswer
+#[tactic(auto, unfolding(crate::specs::Line::line_of))]
+fn between(start: Cell, end: Cell, output: &mut [u8]) -> Result<usize, Refusal>
     ensures { changed result output.new ≡ listed_in (line_of start end) output.old }
 {
     if cell::same(start, end) {
         return single(start, output);
     }
-    let first = lattice::parity_of(cell::coord(start));
-    let second = lattice::parity_of(cell::coord(end));
-    match first {
-        ParityAnswer::Refused(r) => CountAnswer::Refused(r),
-        ParityAnswer::Is(_) => match second {
-            ParityAnswer::Refused(r) => CountAnswer::Refused(r),
-            ParityAnswer::Is(_) => stretched(start, end, output),
-        },
-    }
+    lattice::parity_of(cell::coord(start))?;
+    lattice::parity_of(cell::coord(end))?;
+    stretched(start, end, output)
 }
 
 // The cells along the line between two cells into a buffer, and how many they are.
-pub fn trace_line(start: &[u8], end: &[u8], output: &mut [u8]) -> CountAnswer
+#[tactic(auto, unfolding(crate::specs::Line::trace_in))]
+pub fn trace_line(start: &[u8], end: &[u8], output: &mut [u8]) -> Result<usize, Refusal>
     ensures { changed result output.new ≡ trace_in start.now end.now output.old }
 {
-    let first = cell::from_bytes(start);
-    let second = cell::from_bytes(end);
-    match first {
-        CellAnswer::Refused(r) => CountAnswer::Refused(r),
-        CellAnswer::Is(s) => match second {
-            CellAnswer::Refused(r) => CountAnswer::Refused(r),
-            CellAnswer::Is(e) => between(s, e, output),
-        },
-    }
+    let first = cell::from_bytes(start)?;
+    let second = cell::from_bytes(end)?;
+    between(first, second, output)
 }

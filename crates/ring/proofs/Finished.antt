@@ -1,4 +1,5 @@
 -- A walk that has come to its last cells lists them behind those of the records before them, which a ring has listed and a shell has not.
+use Rattle.std.specs.Prelude.{Ok, Err}
 use mathlib.Core.Path.{◌≡◌, refl, sym, ap, ◌∙◌}
 use mathlib.Core.Bool.{Bool, true, false, cond}
 use mathlib.Core.List.{List, [], ◌++◌}
@@ -10,7 +11,6 @@ use Rattle.refusal.specs.declared.Cell.{Cell}
 use Rattle.refusal.specs.declared.Room.TheVariants.{Output}
 use Rattle.refusal.specs.declared.Refusal.TheVariants.{NoRoom}
 use Rattle.general.specs.Changed.{changed}
-use Rattle.refusal.specs.declared.CountAnswer.TheVariants as count
 use Rattle.known.specs.Inner.Known.{cells_in, known_cells}
 use Rattle.known.proofs.Laws.{length-cells, cells-joined}
 use Rattle.cell_list.specs.Listing.{cells_laid}
@@ -57,17 +57,17 @@ module _ (every : Bool) (w : List ℕ) (rooms : Rooms) (from to first : ℕ) (l 
   length_last : length (cells_between w rooms.known from to) ≡ to - from
   length_last = length-cells w rooms.known from (to - from)
 
-  pub finished-all : to - first ≤ rooms.output → changed (count.Cells (to - first)) (cells_laid (cells_between w rooms.known first to) l) ≡ listed_by ended l
+  pub finished-all : to - first ≤ rooms.output → changed (Ok (to - first)) (cells_laid (cells_between w rooms.known first to) l) ≡ listed_by ended l
   finished-all fits =
       let within = first-within every from first chosen in
       let all : listed_before every w rooms.known from ++ cells_between w rooms.known from to ≡ cells_between w rooms.known first to =
       listed-in-all every w rooms.known from to ordered ∙ ap (λ (k : ℕ). cells_between w rooms.known k to) (sym chosen) in
       let size : length (cells_between w rooms.known first to) ≡ to - first = length-cells w rooms.known first (to - first) in
-      ap (λ (n : ℕ). changed (count.Cells n) (cells_laid (cells_between w rooms.known first to) l)) (sym size)
-      ∙ ap (λ (cells : List Cell). changed (count.Cells (length cells)) (cells_laid cells l)) (sym all)
+      ap (λ (n : ℕ). changed (Ok n) (cells_laid (cells_between w rooms.known first to) l)) (sym size)
+      ∙ ap (λ (cells : List Cell). changed (Ok (length cells)) (cells_laid cells l)) (sym all)
       ∙ ap (λ (walk : Walk). listed_by walk l) (sym (all_listed rooms (cells_between w rooms.known from to) (sight_in every w rooms.known to to from) (omega (arith, length_before, length_last))))
 
-  pub finished-refused : (every ≡ true → from ≤ rooms.output) → rooms.output < to - first → changed (count.Refused (NoRoom Output)) l ≡ listed_by ended l
+  pub finished-refused : (every ≡ true → from ≤ rooms.output) → rooms.output < to - first → changed (Err (NoRoom Output)) l ≡ listed_by ended l
   finished-refused before many =
       let within = first-within every from first chosen in
       ap (λ (walk : Walk). listed_by walk l)

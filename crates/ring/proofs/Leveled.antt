@@ -1,4 +1,5 @@
 -- The cells at one number of steps: each is listed, then expanded, and what is left of them goes on from there.
+use Rattle.std.specs.Prelude.{Result, Ok, Err}
 use mathlib.Core.Path.{◌≡◌, refl, sym, ap, ap₂, subst, ◌∙◌}
 use mathlib.Core.Bool.{Bool, true, false, cond, false≢true}
 use mathlib.Core.List.{List, [], ◌∷◌, ◌++◌}
@@ -14,8 +15,6 @@ use Rattle.refusal.specs.declared.Refusal.TheVariants.{NoRoom}
 use Rattle.known.specs.Inner.Known.{cell_in, known_cells}
 use Rattle.known.proofs.Laws.{length-cells, cells-more}
 use Rattle.ring.specs.declared.Rooms.{Rooms}
-use Rattle.ring.specs.declared.Walked.{Walked}
-use Rattle.ring.specs.declared.Walked.TheVariants.{Going, Stopped}
 use Rattle.ring.specs.Ring.{sight, Walk, going, stopped, and_then, expand, list, list_if, level}
 use Rattle.ring.specs.Inner.State.{cells_between, sight_in, Grown, Shows, Sees}
 use Rattle.ring.proofs.StateLaws.{grown-twice, none_between, first-between, length-between}
@@ -65,7 +64,7 @@ module _ {every : Bool} {rooms : Rooms} {from to : ℕ} {l₀ l : List ℕ} {cou
       ∙ level-first less
       ∙ ap (λ (w : Walk). and_then (and_then w (expand rooms (to - (i + 1)) (cell_in l rooms.known i))) (level every rooms (cells_between l₀ rooms.known (i + 1) to))) (list-next rooms l count to i every room)
 
-  pub no-output-room : i < to → every ≡ true → rooms.output ≤ i → Shows every l₀ l rooms.known to to to (Stopped (NoRoom Output)) (level every rooms (cells_between l₀ rooms.known from to) (sight_in every l₀ rooms.known to to from))
+  pub no-output-room : i < to → every ≡ true → rooms.output ≤ i → Shows every l₀ l rooms.known to to to (Err (NoRoom Output)) (level every rooms (cells_between l₀ rooms.known from to) (sight_in every l₀ rooms.known to to from))
   no-output-room less ring full = (
     here.grown.length-kept,
     here.rest
@@ -75,30 +74,29 @@ module _ {every : Bool} {rooms : Rooms} {from to : ℕ} {l₀ l : List ℕ} {cou
 
   module _ (l' : List ℕ) (less : i < to) (room : every ≡ true → i < rooms.output) where
     -- what expanding the cell showed
-    shown : (w r : Walked) (c : Cell) → w ≡ r → c ≡ cell_in l rooms.known i → Sees rooms (i + 1) count l l' w (λ others. expand rooms others c) → Shows every l l' rooms.known count to (i + 1) r (expand rooms (to - (i + 1)) (cell_in l rooms.known i) (sight_in every l rooms.known count to (i + 1)))
-    shown w r c told read sees =
+    shown : (r : Result ℕ Refusal) (c : Cell) → c ≡ cell_in l rooms.known i → Sees rooms (i + 1) count l l' r (λ others. expand rooms others c) → Shows every l l' rooms.known count to (i + 1) r (expand rooms (to - (i + 1)) (cell_in l rooms.known i) (sight_in every l rooms.known count to (i + 1)))
+    shown r c read sees =
         let more = here.grown.more in
         let s = sight_in every l rooms.known count to (i + 1) in
-        subst (λ (d : Cell). Shows every l l' rooms.known count to (i + 1) r (expand rooms (to - (i + 1)) d s)) read
-        (subst (λ (v : Walked). Shows every l l' rooms.known count to (i + 1) v (expand rooms (to - (i + 1)) c s)) told (sees every to (i + 1) (omega arith) (omega arith) (omega arith)))
+        subst (λ (d : Cell). Shows every l l' rooms.known count to (i + 1) r (expand rooms (to - (i + 1)) d s)) read (sees every to (i + 1) (omega arith) (omega arith) (omega arith))
 
-    pub level-stopped : {w : Walked} {r : Refusal} {c : Cell} → w ≡ Stopped r → c ≡ cell_in l rooms.known i → Sees rooms (i + 1) count l l' w (λ others. expand rooms others c) → Shows every l₀ l' rooms.known to to to (Stopped r) (level every rooms (cells_between l₀ rooms.known from to) (sight_in every l₀ rooms.known to to from))
-    level-stopped {w = w} {r = r} {c = c} told read sees =
-        let now = shown w (Stopped r) c told read sees in (
+    pub level-stopped : {r : Refusal} {c : Cell} → c ≡ cell_in l rooms.known i → Sees rooms (i + 1) count l l' (Err r) (λ others. expand rooms others c) → Shows every l₀ l' rooms.known to to to (Err r) (level every rooms (cells_between l₀ rooms.known from to) (sight_in every l₀ rooms.known to to from))
+    level-stopped {r = r} {c = c} read sees =
+        let now = shown (Err r) c read sees in (
           now.0 ∙ here.grown.length-kept,
           level-next less room ∙ ap (λ (v : Walk). and_then v (level every rooms (cells_between l₀ rooms.known (i + 1) to))) now.1,
         )
 
-    pub level-more : {w : Walked} {m : ℕ} {c : Cell} → w ≡ Going m → c ≡ cell_in l rooms.known i → Sees rooms (i + 1) count l l' w (λ others. expand rooms others c) → LevelTo every rooms from to l₀ l' m (i + 1)
-    level-more {w = w} {m = m} {c = c} told read sees =
-        let now = shown w (Going m) c told read sees in
+    pub level-more : {m : ℕ} {c : Cell} → c ≡ cell_in l rooms.known i → Sees rooms (i + 1) count l l' (Ok m) (λ others. expand rooms others c) → LevelTo every rooms from to l₀ l' m (i + 1)
+    level-more {m = m} {c = c} read sees =
+        let now = shown (Ok m) c read sees in
         record {
           grown = grown-twice here.grown now.0;
           listed = λ ring fits. omega (arith, room ring);
           rest = level-next less room ∙ ap (λ (v : Walk). and_then v (level every rooms (cells_between l₀ rooms.known (i + 1) to))) now.1;
         }
 
-  pub level_all : i ≡ to → Shows every l₀ l rooms.known to to to (Going count) (level every rooms (cells_between l₀ rooms.known from to) (sight_in every l₀ rooms.known to to from))
+  pub level_all : i ≡ to → Shows every l₀ l rooms.known to to to (Ok count) (level every rooms (cells_between l₀ rooms.known from to) (sight_in every l₀ rooms.known to to from))
   unfolding level
   level_all last = (
     here.grown,

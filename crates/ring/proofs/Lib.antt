@@ -11,11 +11,8 @@ pub mod CallLaws
 pub mod Points
 pub mod Seen
 pub mod SeenAll
-pub mod Expanded
 pub mod Leveled
 pub mod Stepped
 pub mod Started
 pub mod Finished
-pub mod Ringed
 pub mod OneAnswer
-pub mod Split

@@ -1,4 +1,6 @@
 -- Sizes and rooms of rings, by computation.
+use Rattle.std.specs.Prelude.{Result, Ok, Err}
+use Rattle.refusal.specs.declared.Refusal.{Refusal}
 use mathlib.Core.Path.{◌≡◌, refl}
 use mathlib.Core.Bool.{Bool, true, false}
 use mathlib.Core.List.{[]}
@@ -9,8 +11,6 @@ use Rattle.refusal.specs.declared.Room.TheVariants.{Known, Waiting, Output}
 use Rattle.refusal.specs.declared.Refusal.TheVariants.{NoRoom, InvalidParity}
 use Rattle.refusal.specs.Refusals.{raw_of}
 use Rattle.lattice.specs.Lattice.{at}
-use Rattle.refusal.specs.declared.CountAnswer.{CountAnswer}
-use Rattle.refusal.specs.declared.CountAnswer.TheVariants.{Cells, Refused}
 use Rattle.ring.specs.declared.Rooms.{Rooms}
 use Rattle.ring.specs.Ring.{walk_of, listed_by}
 
@@ -31,59 +31,59 @@ abbrev mixed : Cell
 mixed = record { high = 0; low = 0x0000_0001_0000_0000 }
 
 -- what a ring or a shell says
-abbrev says : Bool → Rooms → ℕ → Cell → CountAnswer
+abbrev says : Bool → Rooms → ℕ → Cell → Result ℕ Refusal
 says every rooms k center = (listed_by (walk_of every rooms k center) []).said
 
 -- ---- sizes: a centre that is not plain is met again as its plain twin, two steps away
 
-pub plain-ring-one : says true wide 1 plain ≡ Cells 15
+pub plain-ring-one : says true wide 1 plain ≡ Ok 15
 unfolding walk_of raw_of
 plain-ring-one = refl
 
-pub flagged-ring-one : says true wide 1 flagged ≡ Cells 15
+pub flagged-ring-one : says true wide 1 flagged ≡ Ok 15
 unfolding walk_of raw_of
 flagged-ring-one = refl
 
-pub plain-ring-two : says true wide 2 plain ≡ Cells 65
+pub plain-ring-two : says true wide 2 plain ≡ Ok 65
 unfolding walk_of raw_of
 plain-ring-two = refl
 
-pub flagged-ring-two : says true wide 2 flagged ≡ Cells 66
+pub flagged-ring-two : says true wide 2 flagged ≡ Ok 66
 unfolding walk_of raw_of
 flagged-ring-two = refl
 
-pub plain-shell-two : says false wide 2 plain ≡ Cells 50
+pub plain-shell-two : says false wide 2 plain ≡ Ok 50
 unfolding walk_of raw_of
 plain-shell-two = refl
 
-pub flagged-shell-two : says false wide 2 flagged ≡ Cells 51
+pub flagged-shell-two : says false wide 2 flagged ≡ Ok 51
 unfolding walk_of raw_of
 flagged-shell-two = refl
 
 -- ---- "k = 0 is the centre, unchecked"
 
-pub mixed-alone : says true wide 0 mixed ≡ Cells 1
+pub mixed-alone : says true wide 0 mixed ≡ Ok 1
 unfolding walk_of raw_of
 mixed-alone = refl
 
-pub mixed-expanded : says true wide 1 mixed ≡ Refused (InvalidParity (at (pos 1) (pos 0) (pos 0)))
+pub mixed-expanded : says true wide 1 mixed ≡ Err (InvalidParity (at (pos 1) (pos 0) (pos 0)))
 unfolding walk_of raw_of
 mixed-expanded = refl
 
 -- ---- rooms: the centre is listed before its neighbours are seen, and does not wait any more while they are
 
-pub ring-without-output : says true (rooms 1 1 0) 1 plain ≡ Refused (NoRoom Output)
+pub ring-without-output : says true (rooms 1 1 0) 1 plain ≡ Err (NoRoom Output)
 unfolding walk_of raw_of
 ring-without-output = refl
 
-pub shell-without-output : says false (rooms 1 1 0) 1 plain ≡ Refused (NoRoom Known)
+pub shell-without-output : says false (rooms 1 1 0) 1 plain ≡ Err (NoRoom Known)
 unfolding walk_of raw_of
 shell-without-output = refl
 
-pub ring-that-waits : says true (rooms 15 13 15) 1 plain ≡ Refused (NoRoom Waiting)
+pub ring-that-waits : says true (rooms 15 13 15) 1 plain ≡ Err (NoRoom Waiting)
 unfolding walk_of raw_of
 ring-that-waits = refl
 
-pub ring-that-fits : says true (rooms 15 14 15) 1 plain ≡ Cells 15
+pub ring-that-fits : says true (rooms 15 14 15) 1 plain ≡ Ok 15
 unfolding walk_of raw_of
 ring-that-fits = refl

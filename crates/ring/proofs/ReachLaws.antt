@@ -1,4 +1,7 @@
 -- What follows of steps to neighbours and of lists in which no cell stands twice.
+use Rattle.std.specs.Prelude.{Result, Ok, Err}
+use Rattle.lattice.specs.declared.Parity.{Parity}
+use Rattle.refusal.specs.declared.Refusal.{Refusal}
 use mathlib.Core.Path.{◌≡◌, refl, sym, subst}
 use mathlib.Core.Logic.{⊎_elim}
 use mathlib.Core.Bool.{Bool, true, false}
@@ -7,16 +10,13 @@ use mathlib.Core.List.{List, [], ◌∷◌, ◌++◌, Memᴰ}
 use Prim.Native.Nat.{ℕ, ◌<◌}
 use native.Mathlib.Omega.{arith}
 use Rattle.refusal.specs.declared.Cell.{Cell}
-use Rattle.refusal.specs.declared.Refusal.TheVariants.{CoordOverflow}
-use Rattle.refusal.specs.declared.Outcome.TheVariants as outcome
-use Rattle.lattice.specs.declared.ParityAnswer.{ParityAnswer}
-use Rattle.lattice.specs.declared.ParityAnswer.TheVariants as parity
 use Rattle.lattice.specs.Lattice.{parity_of, neighbor_places, has_neighbor_room}
 use Rattle.lattice.proofs.Laws.{room_fits}
 use Rattle.cell.specs.Cell.{frame_of, resolution_of, coord_of, plain_at, near_cells, neighbors_of}
 use Rattle.cell.proofs.Split.{neighbors_in, neighbors_by}
 use Rattle.cell.specs.Terms.{Words}
-use Rattle.cell.proofs.Laws.{fields-packed, refused-answered}
+use Rattle.cell.proofs.Laws.{fields-packed}
+use Rattle.general.proofs.Results.{ok-path, err-is-no-ok}
 use Rattle.ring.specs.Reach.{Near, Steps, stay, onward, Distinct, no_cells, one_more}
 
 -- ---- 128 bits
@@ -28,18 +28,18 @@ near-cell-words a b room m =
     let t = Memᴰ.of_map (plain_at (frame_of a) (resolution_of a)) (neighbor_places (coord_of a)) m in
     subst Words t.2 (fields-packed (frame_of a) (resolution_of a) t.0 0 0 frame (omega arith) (omega arith) (room_fits (coord_of a) t.0 room t.1)).words
 
-words-in : (a b : Cell) (t : Bool) → has_neighbor_room (coord_of a) ≡ t → (neighbors_in t a).outcome ≡ outcome.Answered → Memᴰ b (neighbors_in t a).cells → Words b
-words-in a b true room e m = near-cell-words a b room m
-words-in a b false room e m = absurd (refused-answered CoordOverflow e)
+words-in : (a b : Cell) (t : Bool) (l : List Cell) → has_neighbor_room (coord_of a) ≡ t → neighbors_in t a ≡ Ok l → Memᴰ b l → Words b
+words-in a b true l room e m = near-cell-words a b room (subst (Memᴰ b) (sym (ok-path e)) m)
+words-in a b false l room e m = absurd (err-is-no-ok e)
 
-words-by : (a b : Cell) (p : ParityAnswer) → (neighbors_by p a).outcome ≡ outcome.Answered → Memᴰ b (neighbors_by p a).cells → Words b
-words-by a b (parity.Refused r) e m = absurd (refused-answered r e)
-words-by a b (parity.Is p) e m = words-in a b (has_neighbor_room (coord_of a)) refl e m
+words-by : (a b : Cell) (p : Result Parity Refusal) (l : List Cell) → neighbors_by p a ≡ Ok l → Memᴰ b l → Words b
+words-by a b (Err r) l e m = absurd (err-is-no-ok e)
+words-by a b (Ok p) l e m = words-in a b (has_neighbor_room (coord_of a)) l refl e m
 
 -- a neighbour is a cell of 128 bits
 pub near-words : (a b : Cell) → Near a b → Words b
 unfolding neighbors_of
-near-words a b near = words-by a b (parity_of (coord_of a)) near.answered near.among
+near-words a b near = words-by a b (parity_of (coord_of a)) near.cells near.answered near.among
 
 -- and so is what steps from such a cell reach
 pub steps-words : {a b : Cell} {n : ℕ} → Words a → Steps a n b → Words b

@@ -1,5 +1,6 @@
 -- Neighbours one after the other: what is left of them, seen from what was seen so far, is what all of them are from the start.
-use mathlib.Core.Path.{◌≡◌, sym, ap, subst, ◌∙◌}
+use Rattle.std.specs.Prelude.{Ok, Err}
+use mathlib.Core.Path.{◌≡◌, sym, ap, ◌∙◌}
 use mathlib.Core.Bool.{Bool, true}
 use mathlib.Core.List.{List, []}
 use Prim.Native.Nat.{ℕ, suc, ◌+◌, ◌-◌, ◌≤◌, ◌<◌}
@@ -10,15 +11,13 @@ use lib.Seq.{drop-cons}
 use Rattle.refusal.specs.declared.Cell.{Cell}
 use Rattle.refusal.specs.declared.Refusal.{Refusal}
 use Rattle.ring.specs.declared.Rooms.{Rooms}
-use Rattle.ring.specs.declared.Walked.{Walked}
-use Rattle.ring.specs.declared.Walked.TheVariants.{Going, Stopped}
 use Rattle.ring.specs.Ring.{Sight, Walk, and_then, see, see_all}
 use Rattle.ring.specs.Inner.State.{sight_in, Grown, Sees}
 use Rattle.ring.proofs.StateLaws.{grown-twice}
 
 -- what all waiting cells see does not depend on which: the workspace's part of it
 module _ (rooms : Rooms) (next n : ℕ) (l l' : List ℕ) (f : ℕ → Sight → Walk) (before : next ≤ n) where
-  pub sees-grown : {m : ℕ} → Sees rooms next n l l' (Going m) f → Grown l l' rooms.known n m
+  pub sees-grown : {m : ℕ} → Sees rooms next n l l' (Ok m) f → Grown l l' rooms.known n m
   sees-grown sees = (sees true n 0 before (omega arith) (omega arith)).0
 
 -- the first i cells were seen
@@ -33,9 +32,8 @@ module _ {rooms : Rooms} {next count : ℕ} {l₀ : List ℕ} {cells : List Cell
   unfolding see_all
   next-seen others d s less = ap (λ (cs : List Cell). see_all rooms others cs s) (drop-cons cells i d less)
 
-  pub seen_more : (l' : List ℕ) {r : Walked} {m : ℕ} (d : Cell) → i < length cells → r ≡ Going m → Sees rooms next n l l' r (λ others. see rooms others (get_or cells i d)) → SeenTo rooms next count l₀ cells l' m (i + 1)
-  seen_more l' {m = m} d less e said =
-      let sees = subst (λ (r : Walked). Sees rooms next n l l' r (λ others. see rooms others (get_or cells i d))) e said in
+  pub seen_more : (l' : List ℕ) {m : ℕ} (d : Cell) → i < length cells → Sees rooms next n l l' (Ok m) (λ others. see rooms others (get_or cells i d)) → SeenTo rooms next count l₀ cells l' m (i + 1)
+  seen_more l' {m = m} d less sees =
       let waiting = seen.waiting in
       let more = seen.grown.more in
       record {
@@ -48,9 +46,8 @@ module _ {rooms : Rooms} {next count : ℕ} {l₀ : List ℕ} {cells : List Cell
             ∙ ap (λ (j : ℕ). see_all rooms (to - next) (drop j cells) (sight_in every l' rooms.known m to k)) (sym (add-one i));
       }
 
-  pub seen-stopped : (l' : List ℕ) {w : Walked} {r : Refusal} (d : Cell) → i < length cells → w ≡ Stopped r → Sees rooms next n l l' w (λ others. see rooms others (get_or cells i d)) → Sees rooms next count l₀ l' (Stopped r) (λ others. see_all rooms others cells)
-  seen-stopped l' d less e said every to k from within early =
-      let sees = subst (λ (r : Walked). Sees rooms next n l l' r (λ others. see rooms others (get_or cells i d))) e said in
+  pub seen-stopped : (l' : List ℕ) {r : Refusal} (d : Cell) → i < length cells → Sees rooms next n l l' (Err r) (λ others. see rooms others (get_or cells i d)) → Sees rooms next count l₀ l' (Err r) (λ others. see_all rooms others cells)
+  seen-stopped l' d less sees every to k from within early =
       let waiting = seen.waiting in
       let more = seen.grown.more in
       let now = sees every to k from (omega arith) early in (
@@ -60,7 +57,7 @@ module _ {rooms : Rooms} {next count : ℕ} {l₀ : List ℕ} {cells : List Cell
             ∙ ap (λ (w : Walk). and_then w (see_all rooms (to - next) (drop (suc i) cells))) now.1,
       )
 
-  pub seen_all : length cells ≤ i → Sees rooms next count l₀ l (Going n) (λ others. see_all rooms others cells)
+  pub seen_all : length cells ≤ i → Sees rooms next count l₀ l (Ok n) (λ others. see_all rooms others cells)
   unfolding see_all
   seen_all all every to k from within early =
       let none : drop i cells ≡ [] = drop_of_length-le cells {i = i} all in

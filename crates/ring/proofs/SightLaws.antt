@@ -1,4 +1,6 @@
 -- What a walk has seen at the end of a level: the cells known before it, then those found, none twice, and each neighbour of the level's cells among them.
+use Rattle.std.specs.Prelude.{Result, Ok, Err}
+use Rattle.refusal.specs.declared.Refusal.{Refusal}
 use mathlib.Core.Path.{◌≡◌, refl, sym, ap, subst, ◌∙◌}
 use mathlib.Core.Logic.{⊎_elim}
 use mathlib.Core.Bool.{Bool, true, false, cond, ◌||◌, false≢true}
@@ -10,8 +12,6 @@ use lib.ListN.{length}
 use Rattle.refusal.specs.declared.Cell.{Cell}
 use Rattle.refusal.specs.declared.Room.TheVariants.{Known, Waiting}
 use Rattle.refusal.specs.declared.Refusal.TheVariants.{NoRoom}
-use Rattle.refusal.specs.declared.Outcome.{Outcome}
-use Rattle.refusal.specs.declared.Outcome.TheVariants as outcome
 use Rattle.cell.specs.Cell.{same_cell, neighbors_of}
 use Rattle.cell.specs.Terms.{Words}
 use Rattle.cell.proofs.Laws.{same-cell}
@@ -19,6 +19,7 @@ use Rattle.ring.specs.declared.Rooms.{Rooms}
 use Rattle.ring.specs.Ring.{Sight, going, stopped, and_then, is_among, noted, note, see, see_all, expand_into, expand, list_if, level}
 use Rattle.ring.proofs.AmongLaws.{among-member}
 use Rattle.ring.specs.Reach.{Near, Distinct}
+use Rattle.general.proofs.Results.{ok-path}
 use Rattle.ring.proofs.ReachLaws.{distinct-last}
 use Rattle.ring.proofs.WalkLaws.{going-same, stopped-going, both_go, test-passed, relisted, if_every, list-if-adds}
 
@@ -96,13 +97,13 @@ module _ (before : List Cell) (Q : Cell → Type 0) (fits : (d : Cell) → Q d �
 
   expand-sees : (others : ℕ) (c : Cell) (s t : Sight) → ((d : Cell) → Near c d → Q d) → Sighted before Q s → expand rooms others c s ≡ going t → After before Q (Near c) s t
   unfolding expand
-  expand-sees others c s t q sighted e = by-outcome (neighbors_of c).outcome refl e
+  expand-sees others c s t q sighted e = by-answer (neighbors_of c) refl e
     where
-      by-outcome : (o : Outcome) → (neighbors_of c).outcome ≡ o → expand_into rooms others o (neighbors_of c).cells s ≡ going t → After before Q (Near c) s t
-      by-outcome (outcome.Refused r) said e = absurd (stopped-going e)
-      by-outcome outcome.Answered said e =
-          let after = see-all-sees others (neighbors_of c).cells s t (λ d m. q d (record { answered = said; among = m })) sighted e in
-          record { sighted = after.sighted; kept = after.kept; all = λ d near. after.all d near.among }
+      by-answer : (a : Result (List Cell) Refusal) → neighbors_of c ≡ a → expand_into rooms others a s ≡ going t → After before Q (Near c) s t
+      by-answer (Err r) said e = absurd (stopped-going e)
+      by-answer (Ok cs) said e =
+          let after = see-all-sees others cs s t (λ d m. q d (record { cells = cs; answered = said; among = m })) sighted e in
+          record { sighted = after.sighted; kept = after.kept; all = λ d near. after.all d (subst (Memᴰ d) (ok-path (sym near.answered ∙ said)) near.among) }
 
   relisted-sighted : (l : List Cell) (s : Sight) → Sighted before Q s → Sighted before Q (relisted l s)
   relisted-sighted l s sighted = record { split = sighted.split; distinct = sighted.distinct; words = sighted.words; only = sighted.only }

@@ -1,5 +1,6 @@
 -- One level after the other, down to the last cells.
-use mathlib.Core.Path.{◌≡◌, refl, sym, ap, ap₂, subst, ◌∙◌}
+use Rattle.std.specs.Prelude.{Ok, Err}
+use mathlib.Core.Path.{◌≡◌, refl, sym, ap, ap₂, ◌∙◌}
 use mathlib.Core.Bool.{Bool, true}
 use mathlib.Core.List.{List, []}
 use Prim.Native.Nat.{ℕ, zero, suc, ◌+◌, ◌-◌, ◌≤◌, ◌<◌}
@@ -9,8 +10,6 @@ use Rattle.refusal.specs.declared.Cell.{Cell}
 use Rattle.refusal.specs.declared.Refusal.{Refusal}
 use Rattle.known.specs.Inner.Known.{Known}
 use Rattle.ring.specs.declared.Rooms.{Rooms}
-use Rattle.ring.specs.declared.Walked.{Walked}
-use Rattle.ring.specs.declared.Walked.TheVariants.{Going, Stopped}
 use Rattle.ring.specs.Ring.{sight, Walk, going, stopped, and_then, level, list_all, further, levels}
 use Rattle.ring.specs.Inner.State.{cells_between, sight_in, Shows, Lists, Last}
 use Rattle.ring.proofs.StateLaws.{none_between, sight-further}
@@ -45,24 +44,18 @@ module _ {every : Bool} {rooms : Rooms} {k : ℕ} {l₀ l : List ℕ} {from to d
       here.rest ∙ ap (λ (m : ℕ). levels every rooms m (cells_between l rooms.known from to) (sight_in every l rooms.known to to from)) one
 
   module _ (l' : List ℕ) (some : done < k) where
-    -- what the level showed
-    shown : (w r : Walked) → w ≡ r → Shows every l l' rooms.known to to to w (level every rooms (cells_between l rooms.known from to) (sight_in every l rooms.known to to from)) → Shows every l l' rooms.known to to to r (level every rooms (cells_between l rooms.known from to) (sight_in every l rooms.known to to from))
-    shown w r told shows = subst (λ (v : Walked). Shows every l l' rooms.known to to to v (level every rooms (cells_between l rooms.known from to) (sight_in every l rooms.known to to from))) told shows
-
-    pub stepped-stopped : {w : Walked} {r : Refusal} → w ≡ Stopped r → Shows every l l' rooms.known to to to w (level every rooms (cells_between l rooms.known from to) (sight_in every l rooms.known to to from)) → (length l' ≡ length l₀) × (levels every rooms k (cells_between l₀ rooms.known 0 1) (sight_in every l₀ rooms.known 1 1 0) ≡ stopped r)
-    stepped-stopped {w = w} {r = r} told shows =
-        let now = shown w (Stopped r) told shows in
+    pub stepped-stopped : {r : Refusal} → Shows every l l' rooms.known to to to (Err r) (level every rooms (cells_between l rooms.known from to) (sight_in every l rooms.known to to from)) → (length l' ≡ length l₀) × (levels every rooms k (cells_between l₀ rooms.known 0 1) (sight_in every l₀ rooms.known 1 1 0) ≡ stopped r)
+    stepped-stopped now =
         (now.0 ∙ here.length-kept, next_level some ∙ ap (λ (v : Walk). and_then v (λ t. levels every rooms (k - (done + 1)) t.found (further t))) now.1)
 
-    pub stepped-more : {w : Walked} {n : ℕ} → w ≡ Going n → Shows every l l' rooms.known to to to w (level every rooms (cells_between l rooms.known from to) (sight_in every l rooms.known to to from)) → Lists every rooms from to w → SteppedTo every rooms k l₀ l' to n (done + 1)
-    stepped-more {w = w} {n = n} told shows lists =
-        let now = shown w (Going n) told shows in
+    pub stepped-more : {n : ℕ} → Shows every l l' rooms.known to to to (Ok n) (level every rooms (cells_between l rooms.known from to) (sight_in every l rooms.known to to from)) → Lists every rooms from to (Ok n) → SteppedTo every rooms k l₀ l' to n (done + 1)
+    stepped-more {n = n} now lists =
         let more = now.0.more in
         record {
           known = now.0.known;
           ordered = more;
           length-kept = now.0.length-kept ∙ here.length-kept;
-          listed = λ ring. subst (Lists every rooms from to) told lists ring (here.listed ring);
+          listed = λ ring. lists ring (here.listed ring);
           rest =
               next_level some
               ∙ ap (λ (v : Walk). and_then v (λ t. levels every rooms (k - (done + 1)) t.found (further t))) now.1

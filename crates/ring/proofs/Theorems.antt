@@ -1,4 +1,5 @@
 -- What is shown in this crate beside the contracts of src/: the theorems that docs/PROMISES.md names, in words of specs/. The law behind each is the one that its proof names.
+use Rattle.std.specs.Prelude.{Ok}
 use mathlib.Core.Path.{◌≡◌}
 use mathlib.Core.Logic.{◌↔◌}
 use mathlib.Core.Bool.{true, false, Bool}
@@ -7,7 +8,6 @@ use Prim.Native.Nat.{ℕ, suc}
 use Rattle.refusal.specs.declared.Cell.{Cell}
 use Rattle.words.specs.Word.{Bytes}
 use Rattle.cell.specs.Terms.{Words}
-use Rattle.refusal.specs.declared.CountAnswer.TheVariants as count
 use Rattle.ring.specs.Reach.{Within, Exactly, Distinct}
 use Rattle.ring.specs.Ring.{Sight, going, walk_of, ring_in}
 use Rattle.ring.specs.Terms.{Parts, Answer}
@@ -46,5 +46,5 @@ ring-and-shell = laws.RingParts.ring-and-shell
 -- Where `k_ring` (every) or `k_shell` (not every) answers a number, the output has so many cells at its front, those of the ring or the shell, each once, and the rest is unchanged.
 pub call-answer :
     (center : List ℕ) (k n : ℕ) (w l : List ℕ) (bytes : Bytes center) (every : Bool) (known waiting : ℕ)
-    → (ring_in every center k (in_rooms known waiting) w l).said ≡ count.Cells n → Answer every center k n l (ring_in every center k (in_rooms known waiting) w l).output
+    → (ring_in every center k (in_rooms known waiting) w l).said ≡ Ok n → Answer every center k n l (ring_in every center k (in_rooms known waiting) w l).output
 call-answer = laws.CallLaws.call-answer

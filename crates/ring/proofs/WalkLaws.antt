@@ -1,4 +1,5 @@
 -- What one part of a walk does if it goes on: to list a cell adds it to the cells listed, and to see cells or to expand one does not look at those.
+use Rattle.std.specs.Prelude.{Result, Ok, Err}
 use mathlib.Core.Path.{◌≡◌, refl, sym, ap, ◌∙◌}
 use mathlib.Core.Bool.{Bool, true, false, cond}
 use mathlib.Core.List.{List, [], ◌∷◌, ◌++◌, append_assoc, append-nil}
@@ -11,8 +12,6 @@ use Rattle.refusal.specs.declared.Cell.{Cell}
 use Rattle.refusal.specs.declared.Room.TheVariants.{Known, Waiting, Output}
 use Rattle.refusal.specs.declared.Refusal.{Refusal}
 use Rattle.refusal.specs.declared.Refusal.TheVariants.{NoRoom}
-use Rattle.refusal.specs.declared.Outcome.{Outcome}
-use Rattle.refusal.specs.declared.Outcome.TheVariants as outcome
 use Rattle.cell.specs.Cell.{neighbors_of}
 use Rattle.ring.specs.declared.Rooms.{Rooms}
 use Rattle.ring.specs.Ring.{Sight, sight, Walk, going, stopped, and_then, is_among, noted, see, see_all, expand_into, expand, list, list_if, level, list_all}
@@ -117,11 +116,11 @@ module _ (rooms : Rooms) (others : ℕ) (l : List Cell) where
 
   pub expand-relisted : (c : Cell) (s : Sight) → expand rooms others c (relisted l s) ≡ walk_relisted l (expand rooms others c s)
   unfolding expand
-  expand-relisted c s = by-outcome (neighbors_of c).outcome
+  expand-relisted c s = by-answer (neighbors_of c)
     where
-      by-outcome : (o : Outcome) → expand_into rooms others o (neighbors_of c).cells (relisted l s) ≡ walk_relisted l (expand_into rooms others o (neighbors_of c).cells s)
-      by-outcome (outcome.Refused r) = refl
-      by-outcome outcome.Answered = see-all-relisted (neighbors_of c).cells s
+      by-answer : (a : Result (List Cell) Refusal) → expand_into rooms others a (relisted l s) ≡ walk_relisted l (expand_into rooms others a s)
+      by-answer (Err r) = refl
+      by-answer (Ok cs) = see-all-relisted cs s
 
 -- to expand a cell lists none
 pub expand-lists-none : (rooms : Rooms) (others : ℕ) (c : Cell) (s t : Sight) → expand rooms others c s ≡ going t → t.listed ≡ s.listed

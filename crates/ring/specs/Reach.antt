@@ -1,15 +1,15 @@
 -- What a ring and a shell are, without a walk: the cells that some number of steps to a neighbour reach. Definitions only.
 -- `List.Memᴰ c cells` says that c is a member of cells: it is a place at which cells has c.
-use Rattle.std.specs.Prelude.{◌≡◌, ℕ, zero, suc, ◌≤◌, ◌<◌}
+use Rattle.std.specs.Prelude.{◌≡◌, ℕ, zero, suc, ◌≤◌, ◌<◌, Ok}
 use mathlib.Core.List.{List, [], ◌∷◌, Memᴰ}
 use Rattle.refusal.specs.declared.Cell.{Cell}
-use Rattle.refusal.specs.declared.Outcome.TheVariants as outcome
 use Rattle.cell.specs.Cell.{neighbors_of}
 
 -- b is one of the neighbours of a, which has some
 pub record Near (a b : Cell) : Type 0 where
-  pub answered : (neighbors_of a).outcome ≡ outcome.Answered
-  pub among : Memᴰ b (neighbors_of a).cells
+  pub cells : List Cell
+  pub answered : neighbors_of a ≡ Ok cells
+  pub among : Memᴰ b cells
 
 -- n steps, each to a neighbour, lead from a to b
 pub data Steps (a : Cell) : ℕ → Cell → Type 0 where

@@ -2,18 +2,14 @@
 -- tested as for the search. The centre takes one known and one waiting room; each unseen neighbour needs known room, then waiting room; output room is needed when a cell is listed,
 -- before it is expanded: NoRoom 1, 2, 3." And of the search: "A popped entry's room serves again." The cells that wait are the rest of those at one number of steps, then those found
 -- one step further: the one after the other, in the order of first sight, is breadth first. Definitions only.
-use Rattle.std.specs.Prelude.{Bool, true, false, cond, ◌||◌, ◌&&◌, List, [], ◌∷◌, ◌++◌, ℕ, zero, suc, ◌+◌, ◌*◌, leb, ltb, length}
+use Rattle.std.specs.Prelude.{Bool, true, false, cond, ◌||◌, ◌&&◌, List, [], ◌∷◌, ◌++◌, ℕ, zero, suc, ◌+◌, ◌*◌, leb, ltb, length, Result, Ok, Err}
 use Rattle.refusal.specs.declared.Cell.{Cell}
 use Rattle.refusal.specs.declared.Room.TheVariants.{Known, Waiting, Output}
 use Rattle.refusal.specs.declared.Refusal.{Refusal}
 use Rattle.refusal.specs.declared.Refusal.TheVariants.{NoRoom, BadWorkspace}
-use Rattle.refusal.specs.declared.Outcome.{Outcome}
-use Rattle.refusal.specs.declared.Outcome.TheVariants as outcome
 use Rattle.cell.specs.Cell.{same_cell, neighbors_of}
 use Rattle.cell.specs.Bytes.{from_bytes_of, on_cell}
 use Rattle.general.specs.Changed.{Changed, changed}
-use Rattle.refusal.specs.declared.CountAnswer.{CountAnswer}
-use Rattle.refusal.specs.declared.CountAnswer.TheVariants as count
 use Rattle.cell_list.specs.Listing.{room_in, cells_laid}
 use Rattle.known.specs.Workspace.{is_room, zeros, known_width, WalkRooms}
 use Rattle.ring.specs.declared.Rooms.{Rooms}
@@ -69,14 +65,14 @@ see_all rooms others (c ∷ cs) s = and_then (see rooms others c s) (see_all roo
 -- ---- one cell
 
 -- "parity and overflow are met there"
-abbrev pub expand_into : Rooms → ℕ → Outcome → List Cell → Sight → Walk
-expand_into rooms others (outcome.Refused r) cs s = stopped r
-expand_into rooms others outcome.Answered cs s = see_all rooms others cs s
+abbrev pub expand_into : Rooms → ℕ → Result (List Cell) Refusal → Sight → Walk
+expand_into rooms others (Err r) s = stopped r
+expand_into rooms others (Ok cs) s = see_all rooms others cs s
 
 -- all neighbours of a cell are seen, in neighbour order
 unfoldable pub expand : Rooms → ℕ → Cell → Sight → Walk
 unfolding neighbors_of see_all
-expand rooms others c s = expand_into rooms others (neighbors_of c).outcome (neighbors_of c).cells s
+expand rooms others c s = expand_into rooms others (neighbors_of c) s
 
 -- "output room is needed when a cell is listed"
 unfoldable pub list : Rooms → Cell → Sight → Walk
@@ -122,21 +118,21 @@ walk_of every rooms k c = levels every rooms k (c ∷ []) (sight (c ∷ []) [] [
 
 -- what it says, and what stands in the two lent buffers when it returns
 pub record Ringed : Type 0 where
-  pub said : CountAnswer
+  pub said : Result ℕ Refusal
   pub workspace : List ℕ
   pub output : List ℕ
 
 -- this said, with these bytes in the two buffers
-abbrev pub ringed : CountAnswer → List ℕ → List ℕ → Ringed
+abbrev pub ringed : Result ℕ Refusal → List ℕ → List ℕ → Ringed
 ringed a w l = record { said = a; workspace = w; output = l }
 
 -- the answer and the output of a walk
-abbrev pub listed_by : Walk → List ℕ → Changed CountAnswer
-listed_by (stopped r) l = changed (count.Refused r) l
-listed_by (going s) l = changed (count.Cells (length s.listed)) (cells_laid s.listed l)
+abbrev pub listed_by : Walk → List ℕ → Changed (Result ℕ Refusal)
+listed_by (stopped r) l = changed (Err r) l
+listed_by (going s) l = changed (Ok (length s.listed)) (cells_laid s.listed l)
 
 -- "is all zero at return, answered or refused"
-abbrev pub wiped : Changed CountAnswer → List ℕ → Ringed
+abbrev pub wiped : Changed (Result ℕ Refusal) → List ℕ → Ringed
 wiped a w = ringed a.said (zeros w) a.bytes
 
 -- "room for known cells and waiting entries, each 1..=65,536": 44 bytes for a known cell, none for a waiting entry, which is a known cell's
@@ -151,5 +147,5 @@ rooms_of known waiting l = record { known = known; waiting = waiting; output = r
 unfoldable pub ring_in : Bool → List ℕ → ℕ → WalkRooms → List ℕ → List ℕ → Ringed
 unfolding has_rooms from_bytes_of walk_of cells_laid
 ring_in every center k rooms w l =
-    refuse_unless (has_rooms rooms.known rooms.waiting w) (ringed (count.Refused BadWorkspace) w l)
-    (on_cell (λ r. wiped (changed (count.Refused r) l) w) (λ c. wiped (listed_by (walk_of every (rooms_of rooms.known rooms.waiting l) k c) l) w) center)
+    refuse_unless (has_rooms rooms.known rooms.waiting w) (ringed (Err BadWorkspace) w l)
+    (on_cell (λ r. wiped (changed (Err r) l) w) (λ c. wiped (listed_by (walk_of every (rooms_of rooms.known rooms.waiting l) k c) l) w) center)

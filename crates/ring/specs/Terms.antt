@@ -1,8 +1,7 @@
 -- What theorems say of rings: a ring as a smaller ring and a shell, which cells it has, and what a call's answer is. Definitions only.
-use Rattle.std.specs.Prelude.{Bool, true, false, ◌↔◌, ◌≡◌, ℕ, length}
+use Rattle.std.specs.Prelude.{Bool, true, false, ◌↔◌, ◌≡◌, ℕ, length, Ok}
 use mathlib.Core.List.{◌++◌, List, Memᴰ}
 use Rattle.refusal.specs.declared.Cell.{Cell}
-use Rattle.cell.specs.declared.CellAnswer.TheVariants as cell
 use Rattle.cell.specs.Bytes.{from_bytes_of}
 use Rattle.cell_list.specs.Listing.{cells_laid}
 use Rattle.ring.specs.Ring.{Sight, Walk, going}
@@ -25,7 +24,7 @@ Has false = Exactly
 pub record Answer (every : Bool) (center : List ℕ) (k n : ℕ) (l m : List ℕ) : Type 0 where
   pub around : Cell
   pub cells : List Cell
-  pub read : from_bytes_of center ≡ cell.Is around
+  pub read : from_bytes_of center ≡ Ok around
   pub which : (d : Cell) → Memᴰ d cells ↔ Has every k around d
   pub distinct : Distinct cells
   pub size : n ≡ length cells

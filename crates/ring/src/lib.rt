@@ -11,9 +11,7 @@ ghost use Rattle.ring.specs.Ring.{see, see_all, expand, level, list_all, levels,
 ghost use Rattle.ring.specs.Inner.State.{cells_between, sight_in, Shows, Sees, Lists, Reaches, Listable, Finishable, walked_from};
 ghost use Rattle.known.specs.Workspace.{in_rooms};
 
-use cell::CellAnswer;
-use known::Found;
-use refusal::{Cell, CountAnswer, Outcome, Refusal, Room};
+use refusal::{Cell, Refusal, Room};
 
 // How many known cells, waiting cells and listed cells there is room for.
 #[derive(Clone, Copy)]
@@ -23,13 +21,6 @@ pub struct Rooms {
     pub output: usize,
 }
 
-// The number of known cells, or why the walk stopped.
-#[derive(Clone, Copy)]
-pub enum Walked {
-    Going(usize),
-    Stopped(Refusal),
-}
-
 // Records from one up to another.
 #[derive(Clone, Copy)]
 pub struct Span {
@@ -37,33 +28,29 @@ pub struct Span {
     pub to: usize,
 }
 
-// The last cells, or why the walk stopped.
-#[derive(Clone, Copy)]
-pub enum Reached {
-    Last(Span),
-    Stopped(Refusal),
-}
-
 // One neighbour, while the records from `next` on wait.
-fn see(workspace: &mut [u8], rooms: Rooms, next: usize, count: usize, c: Cell) -> Walked
+fn see(
+    workspace: &mut [u8],
+    rooms: Rooms,
+    next: usize,
+    count: usize,
+    c: Cell,
+) -> Result<usize, Refusal>
     requires known { Known workspace.old rooms.known count }
     requires next_le_count { next ≤ count }
     ensures { Sees rooms next count workspace.old workspace.new result (λ others. see rooms others c) }
 {
-    let place = known::find(workspace, rooms.known, count, c);
-    match place {
-        Found::At(_) => Walked::Going(count),
-        Found::Nowhere => {
-            if count >= rooms.known {
-                return Walked::Stopped(Refusal::NoRoom(Room::Known));
-            }
-            if count - next >= rooms.waiting {
-                return Walked::Stopped(Refusal::NoRoom(Room::Waiting));
-            }
-            known::add(workspace, rooms.known, count, c);
-            Walked::Going(count + 1)
-        }
+    if known::find(workspace, rooms.known, count, c).is_some() {
+        return Ok(count);
     }
+    if count >= rooms.known {
+        return Err(Refusal::NoRoom(Room::Known));
+    }
+    if count - next >= rooms.waiting {
+        return Err(Refusal::NoRoom(Room::Waiting));
+    }
+    known::add(workspace, rooms.known, count, c);
+    Ok(count + 1)
 }
 
 // One neighbour after the other.
@@ -73,38 +60,43 @@ fn see_all(
     next: usize,
     count: usize,
     cells: [Cell; 14],
-) -> Walked
+) -> Result<usize, Refusal>
     requires known { Known workspace.old rooms.known count }
     requires next_le_count { next ≤ count }
     ensures { Sees rooms next count workspace.old workspace.new result (λ others. see_all rooms others cells) }
 {
     let mut n = count;
     for c in cells {
-        match see(workspace, rooms, next, n, c) {
-            Walked::Stopped(r) => return Walked::Stopped(r),
-            Walked::Going(more) => n = more,
-        }
+        n = see(workspace, rooms, next, n, c)?;
     }
-    Walked::Going(n)
+    Ok(n)
 }
 
 // One cell's neighbours.
-fn expand(workspace: &mut [u8], rooms: Rooms, next: usize, count: usize, c: Cell) -> Walked
+#[tactic(auto, unfolding(crate::specs::Ring::expand))]
+fn expand(
+    workspace: &mut [u8],
+    rooms: Rooms,
+    next: usize,
+    count: usize,
+    c: Cell,
+) -> Result<usize, Refusal>
     requires known { Known workspace.old rooms.known count }
     requires next_le_count { next ≤ count }
     ensures { Sees rooms next count workspace.old workspace.new result (λ others. expand rooms others c) }
 {
-    let near = cell::get_neighbors(c);
-    let outcome = near.outcome;
-    let cells = near.cells;
-    match outcome {
-        Outcome::Refused(r) => Walked::Stopped(r),
-        Outcome::Answered => see_all(workspace, rooms, next, count, cells),
-    }
+    let cells = cell::get_neighbors(c)?;
+    see_all(workspace, rooms, next, count, cells)
 }
 
 // The cells at one number of steps, the last ones known so far: records from one up to another.
-fn level(workspace: &mut [u8], every: bool, rooms: Rooms, from: usize, to: usize) -> Walked
+fn level(
+    workspace: &mut [u8],
+    every: bool,
+    rooms: Rooms,
+    from: usize,
+    to: usize,
+) -> Result<usize, Refusal>
     requires known { Known workspace.old rooms.known to }
     requires from_le_to { from ≤ to }
     ensures fact { let w = workspace.old in
@@ -116,19 +108,16 @@ fn level(workspace: &mut [u8], every: bool, rooms: Rooms, from: usize, to: usize
     let mut count = to;
     for i in from..to {
         if every && i >= rooms.output {
-            return Walked::Stopped(Refusal::NoRoom(Room::Output));
+            return Err(Refusal::NoRoom(Room::Output));
         }
         let c = known::cell_at(workspace, rooms.known, i);
-        match expand(workspace, rooms, i + 1, count, c) {
-            Walked::Stopped(r) => return Walked::Stopped(r),
-            Walked::Going(more) => count = more,
-        }
+        count = expand(workspace, rooms, i + 1, count, c)?;
     }
-    Walked::Going(count)
+    Ok(count)
 }
 
 // Level after level, until the last cells are found or a level is empty.
-fn levels(workspace: &mut [u8], every: bool, rooms: Rooms, k: u64) -> Reached
+fn levels(workspace: &mut [u8], every: bool, rooms: Rooms, k: u64) -> Result<Span, Refusal>
     requires { Known workspace.old rooms.known 1 }
     ensures { let w = workspace.old in
         let cells = cells_between w rooms.known 0 1 in
@@ -141,15 +130,11 @@ fn levels(workspace: &mut [u8], every: bool, rooms: Rooms, k: u64) -> Reached
         if from == to {
             break;
         }
-        match level(workspace, every, rooms, from, to) {
-            Walked::Stopped(r) => return Reached::Stopped(r),
-            Walked::Going(more) => {
-                from = to;
-                to = more;
-            }
-        }
+        let more = level(workspace, every, rooms, from, to)?;
+        from = to;
+        to = more;
     }
-    Reached::Last(Span { from, to })
+    Ok(Span { from, to })
 }
 
 // The cells of the records from one up to another at the front of a buffer that holds them.
@@ -163,7 +148,13 @@ fn write(workspace: &[u8], room: usize, from: usize, to: usize, output: &mut [u8
 }
 
 // The answer of a walk that has come to its last cells: a ring has listed all before them.
-fn finish(workspace: &[u8], every: bool, rooms: Rooms, last: Span, output: &mut [u8]) -> CountAnswer
+fn finish(
+    workspace: &[u8],
+    every: bool,
+    rooms: Rooms,
+    last: Span,
+    output: &mut [u8],
+) -> Result<usize, Refusal>
     requires { Finishable every workspace.now rooms last output.old }
     ensures { let w = workspace.now in
         let cells = cells_between w rooms.known last.from last.to in
@@ -173,10 +164,10 @@ fn finish(workspace: &[u8], every: bool, rooms: Rooms, last: Span, output: &mut 
     let first = if every { 0 } else { last.from };
     let count = last.to - first;
     if count > rooms.output {
-        return CountAnswer::Refused(Refusal::NoRoom(Room::Output));
+        return Err(Refusal::NoRoom(Room::Output));
     }
     write(workspace, rooms.known, first, last.to, output);
-    CountAnswer::Cells(count)
+    Ok(count)
 }
 
 // The walk from a centre, in a workspace that may hold anything.
@@ -187,7 +178,7 @@ fn walk(
     k: u64,
     c: Cell,
     output: &mut [u8],
-) -> CountAnswer
+) -> Result<usize, Refusal>
     requires roomy { Roomy workspace.old rooms.known }
     requires output_value { rooms.output ≡ room_in output.old }
     ensures output_after { changed result output.new ≡ listed_by (walk_of every rooms k c) output.old }
@@ -195,10 +186,8 @@ fn walk(
 {
     known::clear(workspace, rooms.known);
     known::add(workspace, rooms.known, 0, c);
-    match levels(workspace, every, rooms, k) {
-        Reached::Stopped(r) => CountAnswer::Refused(r),
-        Reached::Last(last) => finish(workspace, every, rooms, last, output),
-    }
+    let last = levels(workspace, every, rooms, k)?;
+    finish(workspace, every, rooms, last, output)
 }
 
 // The walk from the centre that the bytes hold.
@@ -209,17 +198,14 @@ fn walk_from(
     k: u64,
     workspace: &mut [u8],
     output: &mut [u8],
-) -> CountAnswer
+) -> Result<usize, Refusal>
     requires roomy { Roomy workspace.old rooms.known }
     requires output_value { rooms.output ≡ room_in output.old }
     ensures output_after { changed result output.new ≡ walked_from (from_bytes_of center.now) every rooms k output.old }
     ensures workspace_len_unchanged { length workspace.new ≡ length workspace.old }
 {
-    let given = cell::from_bytes(center);
-    match given {
-        CellAnswer::Refused(r) => CountAnswer::Refused(r),
-        CellAnswer::Is(c) => walk(workspace, every, rooms, k, c, output),
-    }
+    let c = cell::from_bytes(center)?;
+    walk(workspace, every, rooms, k, c, output)
 }
 
 #[tactic(auto, unfolding(crate::specs::Ring::has_rooms))]
@@ -232,6 +218,7 @@ fn has_rooms(known: usize, waiting: usize, workspace: &[u8]) -> bool
 }
 
 // A ring or a shell. The workspace is zeroed when the call returns, whatever it answers, but for a workspace that is too small.
+#[tactic(auto, unfolding(crate::specs::Ring::ring_in))]
 fn around(
     center: &[u8],
     every: bool,
@@ -240,12 +227,12 @@ fn around(
     waiting: usize,
     workspace: &mut [u8],
     output: &mut [u8],
-) -> CountAnswer
+) -> Result<usize, Refusal>
     ensures { ringed result workspace.new output.new
         ≡ ring_in every center.now k (in_rooms known waiting) workspace.old output.old }
 {
     if !has_rooms(known, waiting, workspace) {
-        return CountAnswer::Refused(Refusal::BadWorkspace);
+        return Err(Refusal::BadWorkspace);
     }
     let rooms = Rooms {
         known,
@@ -265,7 +252,7 @@ pub fn k_ring(
     waiting: usize,
     workspace: &mut [u8],
     output: &mut [u8],
-) -> CountAnswer
+) -> Result<usize, Refusal>
     ensures { ringed result workspace.new output.new
         ≡ ring_in true center.now k (in_rooms known waiting) workspace.old output.old }
 {
@@ -280,7 +267,7 @@ pub fn k_shell(
     waiting: usize,
     workspace: &mut [u8],
     output: &mut [u8],
-) -> CountAnswer
+) -> Result<usize, Refusal>
     ensures { ringed result workspace.new output.new
         ≡ ring_in false center.now k (in_rooms known waiting) workspace.old output.old }
 {

@@ -1,4 +1,5 @@
 -- What is left of the room and the cells of the whole list are as many as the room, the last cell and those still to come: each sample keeps that.
+use Rattle.std.specs.Prelude.{Some, None}
 use mathlib.Core.Path.{◌≡◌, sym, ap}
 use Prim.Native.Nat.{ℕ, ◌+◌, ◌-◌, ◌≤◌}
 use native.Mathlib.Omega.{arith}
@@ -6,20 +7,19 @@ use lib.ListN.{length}
 use Rattle.std.proofs.lemmas.Grind.{common_steps}
 use Rattle.refusal.specs.declared.Cell.{Cell}
 use Rattle.line.specs.declared.Line.{Line}
-use Rattle.line.specs.declared.Sample.TheVariants.{New, Dropped}
 use Rattle.line.specs.Line.{sampled, ending, cells_along}
 use Rattle.line.proofs.Laws.{cells_from, along-from, after-dropped, after-new, after-samples}
 use Rattle.line.proofs.fits.Goals as goal
-use Rattle.line.proofs.fits.Goals.{After-same, else-loop-i-test, then-loop-i-test+else-left-eq0+else-i-i-end, in-New, in_default}
+use Rattle.line.proofs.fits.Goals.{After-same, else-loop-i-test, then-loop-i-test+else-left-eq0+else-i-i-end, in-Some, in_default}
 
 abbrev Counted : Line → ℕ → Cell → ℕ → ℕ → Type 0
 Counted line room last left i = left + length (cells_along line) ≡ room + (1 + length (cells_from line last i))
 
 module _ (line : Line) (room : ℕ) (last : Cell) (left i : ℕ) {last' : Cell} {left' : ℕ} (within : i ≤ line.steps) (before : Counted line room last left i) where
-  dropped-counted : sampled line last i ≡ Dropped → last' ≡ last → left' ≡ left → Counted line room last' left' (i + 1)
+  dropped-counted : sampled line last i ≡ None → last' ≡ last → left' ≡ left → Counted line room last' left' (i + 1)
   dropped-counted e p q = rw (p, q) (omega (arith, ap length (after-dropped line last i within e)))
 
-  new-counted : {c : Cell} → sampled line last i ≡ New c → last' ≡ c → left' ≡ left - 1 → 1 ≤ left → Counted line room last' left' (i + 1)
+  new-counted : {c : Cell} → sampled line last i ≡ Some c → last' ≡ c → left' ≡ left - 1 → 1 ≤ left → Counted line room last' left' (i + 1)
   new-counted e p q some = rw (p, q) (omega (arith, ap length (after-new line last i within e)))
 
 pub loop-i-init : goal.loop-i-init
@@ -30,7 +30,7 @@ loop-i-preserved c =
     let a = c.args in
     let here = c.loop-i in
     elim c.match-sampled.branch [
-      | in-New w ↦ new-counted a.line a.room here.last here.left here.i (omega arith) here.invariant (sym w.in-New.ensures) w.last-is w.left-is (omega arith)
+      | in-Some w ↦ new-counted a.line a.room here.last here.left here.i (omega arith) here.invariant (sym w.in-Some.ensures) w.last-is w.left-is (omega arith)
       | in_default w ↦ dropped-counted a.line a.room here.last here.left here.i (omega arith) here.invariant (sym w.in_default.ensures) w.last-is w.left-is
     ]
 
@@ -45,7 +45,7 @@ counted c =
           let at = w.match-sampled in
           let more : Counted a.line a.room at.last at.left (here.i + 1) =
           elim w.match-sampled.branch [
-            | in-New v ↦ new-counted a.line a.room here.last here.left here.i (omega arith) here.invariant (sym v.in-New.ensures) v.last-is v.left-is (omega arith)
+            | in-Some v ↦ new-counted a.line a.room here.last here.left here.i (omega arith) here.invariant (sym v.in-Some.ensures) v.last-is v.left-is (omega arith)
             | in_default v ↦ dropped-counted a.line a.room here.last here.left here.i (omega arith) here.invariant (sym v.in_default.ensures) v.last-is v.left-is
           ] in
           rw (w.left-is, w.last-is) (omega (arith, ap length (after-samples a.line at.last (here.i + 1) (omega arith))))

@@ -1,6 +1,6 @@
 -- From the one known cell to the last cells, which are listed.
-use native.Mathlib.Omega.{arith}
-use Rattle.cell.specs.Terms.{Words}
+use Rattle.std.proofs.Common.{rules}
+use Rattle.std.proofs.lemmas.Result.{err_from_is_err_and}
 use Rattle.known.proofs.Emptied.{emptied-by}
 use Rattle.known.proofs.Added.{added-by}
 use Rattle.ring.proofs.Started.{walked-stopped, walked_all}
@@ -8,24 +8,21 @@ use Rattle.ring.proofs.walk.Goals as goal
 
 pub levels-requires : goal.levels-requires
 levels-requires c =
-    let args = c.args in
-    let words : Words args.c = record { high_word = omega (arith, c.well_formed); low-word = omega (arith, c.well_formed) } in
-    let none = emptied-by args.workspace.now _ args.rooms.known c.requires.roomy c.clear.ensures in
-    let one = added-by _ args.rooms.known 0 args.c none.known c.requires.roomy.least words _ c.add.ensures in
-    one.known
+    let a = c.args in
+    let none = emptied-by a.workspace.now _ a.rooms.known c.requires.roomy c.clear.ensures in
+    (added-by _ a.rooms.known 0 a.c none.known c.requires.roomy.least (search rules) _ c.add.ensures).known
 
-pub returns-in-Stopped-clause-output_after : goal.returns-in-Stopped-clause-output_after
-returns-in-Stopped-clause-output_after c =
-    let args = c.args in
-    let words : Words args.c = record { high_word = omega (arith, c.well_formed); low-word = omega (arith, c.well_formed) } in
-    let none = emptied-by args.workspace.now _ args.rooms.known c.requires.roomy c.clear.ensures in
-    let one = added-by _ args.rooms.known 0 args.c none.known c.requires.roomy.least words _ c.add.ensures in
-    (walked-stopped args.every args.rooms args.k args.c args.workspace.now _ _ none one _ c.levels.result c.levels.ensures _ args.output.now c.in-Stopped.is).0
+pub returns-in_err-last-clause-output_after : goal.returns-in_err-last-clause-output_after
+returns-in_err-last-clause-output_after c =
+    let a = c.args in
+    let none = emptied-by a.workspace.now _ a.rooms.known c.requires.roomy c.clear.ensures in
+    let one = added-by _ a.rooms.known 0 a.c none.known c.requires.roomy.least (search rules) _ c.add.ensures in
+    let p = err_from_is_err_and c.from_residual.result c.from_residual.ensures.1 in
+    rw (p.1, p.2) (walked-stopped a.every a.rooms a.k a.c _ _ one _ _ a.output.now c.in_err-last.ensures)
 
-pub returns-in-Last-clause-output_after : goal.returns-in-Last-clause-output_after
-returns-in-Last-clause-output_after c =
-    let args = c.args in
-    let words : Words args.c = record { high_word = omega (arith, c.well_formed); low-word = omega (arith, c.well_formed) } in
-    let none = emptied-by args.workspace.now _ args.rooms.known c.requires.roomy c.clear.ensures in
-    let one = added-by _ args.rooms.known 0 args.c none.known c.requires.roomy.least words _ c.add.ensures in
-    (walked_all args.every args.rooms args.k args.c args.workspace.now _ _ none one _ c.levels.result c.levels.ensures _ args.output.now c.in-Last.is c.finish.ensures).0
+pub returns-clause-output_after : goal.returns-clause-output_after
+returns-clause-output_after c =
+    let a = c.args in
+    let none = emptied-by a.workspace.now _ a.rooms.known c.requires.roomy c.clear.ensures in
+    let one = added-by _ a.rooms.known 0 a.c none.known c.requires.roomy.least (search rules) _ c.add.ensures in
+    walked_all a.every a.rooms a.k a.c _ _ one _ _ a.output.now c.in_ok-last.ensures c.finish.ensures

@@ -1,20 +1,13 @@
 -- What a walk has seen, read off its workspace: the known cells are the first n records, those found stand from record `to` on, and a ring has listed those before record i.
 -- For contracts inside. Definitions only.
-use Rattle.std.specs.Prelude.{◌≡◌, Bool, true, cond, List, [], ℕ, ◌-◌, ◌≤◌, ◌<◌, length}
+use Rattle.std.specs.Prelude.{◌≡◌, Bool, true, cond, List, [], ℕ, ◌-◌, ◌≤◌, ◌<◌, length, Result, Ok, Err}
 use Rattle.refusal.specs.declared.Cell.{Cell}
-use Rattle.cell.specs.declared.CellAnswer.{CellAnswer}
-use Rattle.cell.specs.declared.CellAnswer.TheVariants as cell
+use Rattle.refusal.specs.declared.Refusal.{Refusal}
 use Rattle.general.specs.Changed.{Changed, changed}
-use Rattle.refusal.specs.declared.CountAnswer.{CountAnswer}
-use Rattle.refusal.specs.declared.CountAnswer.TheVariants as count
 use Rattle.known.specs.Inner.Known.{cell_in, cells_in, known_cells, Known}
 use Rattle.cell_list.specs.Listing.{room_in}
 use Rattle.ring.specs.declared.Rooms.{Rooms}
 use Rattle.ring.specs.declared.Span.{Span}
-use Rattle.ring.specs.declared.Walked.{Walked}
-use Rattle.ring.specs.declared.Walked.TheVariants as walked
-use Rattle.ring.specs.declared.Reached.{Reached}
-use Rattle.ring.specs.declared.Reached.TheVariants as reached
 use Rattle.ring.specs.Ring.{Sight, sight, Walk, going, stopped, list_all, walk_of, listed_by}
 
 -- the cells of the records from `from` up to `to`
@@ -33,19 +26,19 @@ pub record Grown (l l' : List ℕ) (room n n' : ℕ) : Type 0 where
   pub length-kept : length l' ≡ length l
 
 -- the walk w of the definition is what the answer and the workspace show
-abbrev pub Shows : Bool → List ℕ → List ℕ → ℕ → ℕ → ℕ → ℕ → Walked → Walk → Type 0
-Shows every l l' room n to i (walked.Going n') w = Grown l l' room n n' × (w ≡ going (sight_in every l' room n' to i))
-Shows every l l' room n to i (walked.Stopped r) w = (length l' ≡ length l) × (w ≡ stopped r)
+abbrev pub Shows : Bool → List ℕ → List ℕ → ℕ → ℕ → ℕ → ℕ → Result ℕ Refusal → Walk → Type 0
+Shows every l l' room n to i (Ok n') w = Grown l l' room n n' × (w ≡ going (sight_in every l' room n' to i))
+Shows every l l' room n to i (Err r) w = (length l' ≡ length l) × (w ≡ stopped r)
 
 -- the same of every walk whose waiting cells begin at record `next`: f is told how many of the cells at hand wait
-abbrev pub Sees : Rooms → ℕ → ℕ → List ℕ → List ℕ → Walked → (ℕ → Sight → Walk) → Type 0
+abbrev pub Sees : Rooms → ℕ → ℕ → List ℕ → List ℕ → Result ℕ Refusal → (ℕ → Sight → Walk) → Type 0
 Sees rooms next n l l' r f =
     (every : Bool) (to i : ℕ) → next ≤ to → to ≤ n → i ≤ to → Shows every l l' rooms.known n to i r (f (to - next) (sight_in every l rooms.known n to i))
 
 -- a ring that listed the cells before record `from`, and went on past those before record `to`, had output room for them
-abbrev pub Lists : Bool → Rooms → ℕ → ℕ → Walked → Type 0
-Lists every rooms from to (walked.Going n) = every ≡ true → from ≤ rooms.output → to ≤ rooms.output
-Lists every rooms from to (walked.Stopped r) = Unit {0}
+abbrev pub Lists : Bool → Rooms → ℕ → ℕ → Result ℕ Refusal → Type 0
+Lists every rooms from to (Ok n) = every ≡ true → from ≤ rooms.output → to ≤ rooms.output
+Lists every rooms from to (Err r) = Unit {0}
 
 -- the walk w has come to its last cells: the records from `from` up to `to`, which are left to be listed
 pub record Last (every : Bool) (l l' : List ℕ) (rooms : Rooms) (from to : ℕ) (w : Walk) : Type 0 where
@@ -56,9 +49,9 @@ pub record Last (every : Bool) (l l' : List ℕ) (rooms : Rooms) (from to : ℕ)
   pub rest : w ≡ list_all rooms (cells_between l' rooms.known from to) (sight_in every l' rooms.known to to from)
 
 -- what was reached is the walk w of the definition: at its last cells, or refused
-abbrev pub Reaches : Bool → List ℕ → List ℕ → Rooms → Reached → Walk → Type 0
-Reaches every l l' rooms (reached.Last s) w = Last every l l' rooms s.from s.to w
-Reaches every l l' rooms (reached.Stopped r) w = (length l' ≡ length l) × (w ≡ stopped r)
+abbrev pub Reaches : Bool → List ℕ → List ℕ → Rooms → Result Span Refusal → Walk → Type 0
+Reaches every l l' rooms (Ok s) w = Last every l l' rooms s.from s.to w
+Reaches every l l' rooms (Err r) w = (length l' ≡ length l) × (w ≡ stopped r)
 
 -- ---- what is asked before cells are listed
 
@@ -76,6 +69,6 @@ pub record Finishable (every : Bool) (l : List ℕ) (rooms : Rooms) (last : Span
   pub same-room : rooms.output ≡ room_in output
 
 -- the answer and the output of a call whose centre was read
-abbrev pub walked_from : CellAnswer → Bool → Rooms → ℕ → List ℕ → Changed CountAnswer
-walked_from (cell.Refused r) every rooms k l = changed (count.Refused r) l
-walked_from (cell.Is c) every rooms k l = listed_by (walk_of every rooms k c) l
+abbrev pub walked_from : Result Cell Refusal → Bool → Rooms → ℕ → List ℕ → Changed (Result ℕ Refusal)
+walked_from (Err r) every rooms k l = changed (Err r) l
+walked_from (Ok c) every rooms k l = listed_by (walk_of every rooms k c) l
