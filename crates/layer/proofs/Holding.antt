@@ -1,5 +1,4 @@
 -- The calls on a layer are those of a map: a set and a remove lay the rows that the map has after them, get says what these keep, and the layer is sound again. Over the width of a record.
-use Rattle.std.specs.Prelude.{Option, Some, None}
 use mathlib.Core.Bool.{Bool, true, false, cond}
 use mathlib.Core.List.{List}
 use mathlib.Core.Path.{◌≡◌, refl, ap, ap₂, subst, subst⁻¹, ◌∙◌}
@@ -8,15 +7,13 @@ use native.Mathlib.Omega.{arith}
 use borrow.Author.Tests.{leb-true}
 use lib.Dec.{leb}
 use lib.ListN.{length}
+use Rattle.std.specs.Prelude.{Option, Some, None, Result, Ok, Err}
+use Rattle.refusal.specs.declared.Refusal.{Refusal}
 use Rattle.refusal.specs.declared.Refusal.TheVariants.{BadLayer, NoRoom}
 use Rattle.general.specs.Changed.{changed, Changed}
 use Rattle.refusal.specs.declared.Cell.{Cell}
 use Rattle.refusal.specs.declared.Room.TheVariants as room
-use Rattle.refusal.specs.declared.CountAnswer.{CountAnswer}
-use Rattle.refusal.specs.declared.CountAnswer.TheVariants as count
 use Rattle.words.specs.Word.{Bytes}
-use Rattle.cell.specs.declared.CellAnswer.{CellAnswer}
-use Rattle.cell.specs.declared.CellAnswer.TheVariants as cell
 use Rattle.cell.specs.Bytes.{from_bytes_of}
 use Rattle.cell.specs.Terms.{Words}
 use Rattle.table.specs.Records.{rows_of, is_sound, held_of, without_cell, refilled, Row, room_for, with_row, laid, keeping}
@@ -27,58 +24,56 @@ use Rattle.table.proofs.Bytes.{length-rows_from, rows-storable, with-storable, w
 use Rattle.table.proofs.Holding.{laid-holds, refilled-holds}
 use Rattle.layer.proofs.Split.{remove_by, set_by, held_by}
 use Rattle.layer.specs.Changes.{remove_in, relaid, set_in, left_by}
-use Rattle.layer.specs.Calls.{of_held, held_in}
-use Rattle.layer.specs.declared.HeldAnswer.{HeldAnswer}
-use Rattle.layer.specs.declared.HeldAnswer.TheVariants as kept
+use Rattle.layer.specs.Calls.{held_in}
 
 -- remove says what get would have said
 pub remove-says-held : (w : ℕ) (l : List ℕ) (n : ℕ) (m : List ℕ) → (remove_in w l n m).said ≡ held_in w l n m
 unfolding remove_in held_in
 remove-says-held w l n m = by-cell (from_bytes_of m)
   where
-    by-test : (t : Bool) (h : HeldAnswer) (x : List ℕ) → (cond t (changed h x) (changed (kept.Refused BadLayer) l)).said ≡ cond t h (kept.Refused BadLayer)
+    by-test : (t : Bool) (h : Result (Option ℕ) Refusal) (x : List ℕ) → (cond t (changed h x) (changed (Err BadLayer) l)).said ≡ cond t h (Err BadLayer)
     by-test true h x = refl
     by-test false h x = refl
 
-    by-cell : (a : CellAnswer) → (remove_by a w l n).said ≡ held_by a w l n
-    by-cell (cell.Refused r) = refl
-    by-cell (cell.Is c) = by-test (is_sound w l n) (of_held (held_of c (rows_of w l n))) (refilled w n (without_cell c (rows_of w l n)) l)
+    by-cell : (a : Result Cell Refusal) → (remove_by a w l n).said ≡ held_by a w l n
+    by-cell (Err r) = refl
+    by-cell (Ok c) = by-test (is_sound w l n) (Ok (held_of c (rows_of w l n))) (refilled w n (without_cell c (rows_of w l n)) l)
 
 -- what get answers of them
-pub get-of-rows : (w : ℕ) (l : List ℕ) (n : ℕ) (rs : List Row) (m : List ℕ) (c : Cell) → Holds w l n rs → from_bytes_of m ≡ cell.Is c → held_in w l n m ≡ of_held (held_of c rs)
+pub get-of-rows : (w : ℕ) (l : List ℕ) (n : ℕ) (rs : List Row) (m : List ℕ) (c : Cell) → Holds w l n rs → from_bytes_of m ≡ Ok c → held_in w l n m ≡ Ok (held_of c rs)
 unfolding held_in
 get-of-rows w l n rs m c h read =
-    ap (λ (a : CellAnswer). held_by a w l n) read
-    ∙ ap₂ (λ (t : Bool) (r : List Row). cond t (of_held (held_of c r)) (kept.Refused BadLayer)) h.sound h.rows
+    ap (λ (a : Result Cell Refusal). held_by a w l n) read
+    ∙ ap₂ (λ (t : Bool) (r : List Row). cond t (Ok (held_of c r)) (Err BadLayer)) h.sound h.rows
 
-left-rows : (c : Cell) (rs : List Row) (h : Option ℕ) → held_of c rs ≡ h → length (without_cell c rs) ≡ left_by (of_held h) (length rs)
+left-rows : (c : Cell) (rs : List Row) (h : Option ℕ) → held_of c rs ≡ h → length (without_cell c rs) ≡ left_by (Ok h) (length rs)
 left-rows c rs None e = length-without-none c rs e
 left-rows c rs (Some k) e = omega (arith, length-without-held c rs k e)
 
-fewer-left : (h : Option ℕ) (n : ℕ) → left_by (of_held h) n ≤ n
+fewer-left : (h : Option ℕ) (n : ℕ) → left_by (Ok h) n ≤ n
 fewer-left None n = omega arith
 fewer-left (Some k) n = omega arith
 
-module _ (w : ℕ) (l : List ℕ) (n : ℕ) (m : List ℕ) (c : Cell) (read : from_bytes_of m ≡ cell.Is c) (sound : is_sound w l n ≡ true) where
+module _ (w : ℕ) (l : List ℕ) (n : ℕ) (m : List ℕ) (c : Cell) (read : from_bytes_of m ≡ Ok c) (sound : is_sound w l n ≡ true) where
   -- a set lays the rows that the map has after it, where there is room for them
   pub set_is : (k : ℕ) → set_in w l n m k ≡ relaid w (with_row (keeping c k) (rows_of w l n)) l
   unfolding set_in
   set_is k =
-      ap (λ (a : CellAnswer). set_by a w l n k) read
-      ∙ ap (λ (t : Bool). cond t (relaid w (with_row (keeping c k) (rows_of w l n)) l) (changed (count.Refused BadLayer) l)) sound
+      ap (λ (a : Result Cell Refusal). set_by a w l n k) read
+      ∙ ap (λ (t : Bool). cond t (relaid w (with_row (keeping c k) (rows_of w l n)) l) (changed (Err BadLayer) l)) sound
 
   -- a remove says what was kept, and leaves the rows that the map has after it
-  pub remove-is : remove_in w l n m ≡ changed (of_held (held_of c (rows_of w l n))) (refilled w n (without_cell c (rows_of w l n)) l)
+  pub remove-is : remove_in w l n m ≡ changed (Ok (held_of c (rows_of w l n))) (refilled w n (without_cell c (rows_of w l n)) l)
   unfolding remove_in
   remove-is =
-      ap (λ (a : CellAnswer). remove_by a w l n) read
-      ∙ ap (λ (t : Bool). cond t (changed (of_held (held_of c (rows_of w l n))) (refilled w n (without_cell c (rows_of w l n)) l)) (changed (kept.Refused BadLayer) l)) sound
+      ap (λ (a : Result Cell Refusal). remove_by a w l n) read
+      ∙ ap (λ (t : Bool). cond t (changed (Ok (held_of c (rows_of w l n))) (refilled w n (without_cell c (rows_of w l n)) l)) (changed (Err BadLayer) l)) sound
 
   module _ (least : 16 ≤ w) (bytes : Bytes l) where
     -- what holds of a sound layer that has the row, and of the old one where there is no room, holds after a set
-    pub set-either : (P : Changed CountAnswer → Type 0) (k : ℕ) → Words c → k < 256 ^ (w - 16)
-        → ((t : List ℕ) (i : ℕ) → Holds w t i (with_row (keeping c k) (rows_of w l n)) → P (changed (count.Cells i) t))
-        → P (changed (count.Refused (NoRoom room.Layer)) l)
+    pub set-either : (P : Changed (Result ℕ Refusal) → Type 0) (k : ℕ) → Words c → k < 256 ^ (w - 16)
+        → ((t : List ℕ) (i : ℕ) → Holds w t i (with_row (keeping c k) (rows_of w l n)) → P (changed (Ok i) t))
+        → P (changed (Err (NoRoom room.Layer)) l)
         → P (set_in w l n m k)
     unfolding rows_of
     set-either P k words small answers refuses =
@@ -89,7 +84,7 @@ module _ (w : ℕ) (l : List ℕ) (n : ℕ) (m : List ℕ) (c : Cell) (read : fr
         answers)
       where
         by-room : (rs : List Row) (t : Bool) → leb (length rs) (room_for w l) ≡ t → (length rs ≤ room_for w l → Holds w (laid w rs l) (length rs) rs)
-            → ((t : List ℕ) (i : ℕ) → Holds w t i rs → P (changed (count.Cells i) t)) → P (cond t (changed (count.Cells (length rs)) (laid w rs l)) (changed (count.Refused (NoRoom room.Layer)) l))
+            → ((t : List ℕ) (i : ℕ) → Holds w t i rs → P (changed (Ok i) t)) → P (cond t (changed (Ok (length rs)) (laid w rs l)) (changed (Err (NoRoom room.Layer)) l))
         by-room rs true e holds answered = answered (laid w rs l) (length rs) (holds (leb-true (length rs) (room_for w l) e))
         by-room rs false e holds answered = refuses
 
@@ -99,7 +94,7 @@ module _ (w : ℕ) (l : List ℕ) (n : ℕ) (m : List ℕ) (c : Cell) (read : fr
     remove-holds =
         let rs = without_cell c (rows_of w l n) in
         let h = held_of c (rows_of w l n) in
-        let left : length rs ≡ left_by (of_held h) n = left-rows c (rows_of w l n) h refl ∙ ap (left_by (of_held h)) (length-rows_from w l 0 n) in
-        subst⁻¹ (λ (z : Changed HeldAnswer). Holds w z.bytes (left_by z.said n) rs) remove-is
+        let left : length rs ≡ left_by (Ok h) n = left-rows c (rows_of w l n) h refl ∙ ap (left_by (Ok h)) (length-rows_from w l 0 n) in
+        subst⁻¹ (λ (z : Changed (Result (Option ℕ) Refusal)). Holds w z.bytes (left_by z.said n) rs) remove-is
         (subst (λ (k : ℕ). Holds w (refilled w n rs l) k rs) left
         (refilled-holds w l least bytes rs n (without-storable w c (rows_of w l n) (rows-storable w l 0 n bytes)) (without-ascending c (rows_of w l n) (sound-ascending w l n sound)) (omega (arith, left, fewer-left h n)) (sound-room w l n sound)))

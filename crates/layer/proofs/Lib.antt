@@ -1,5 +1,4 @@
 pub mod Theorems
-mod Answers
 mod Rewritten
 pub mod OneAnswer
 pub mod CallAnswers

@@ -9,35 +9,27 @@ use native.Mathlib.Omega.{arith}
 use borrow.Author.Tests.{le-leb, lt-leb}
 use lib.ListN.{length, take, drop, replicate, take-append-drop}
 use lib.Seq.{paste, drop_at, drop-drop, length-take-le}
+use Rattle.std.specs.Prelude.{Some, None, Ok, Err}
 use Rattle.refusal.specs.declared.Cell.{Cell}
 use Rattle.refusal.specs.declared.Room.TheVariants as room
 use Rattle.refusal.specs.declared.Refusal.TheVariants.{NoRoom}
 use Rattle.words.specs.Word.{Bytes}
-use Rattle.cell.specs.declared.CellAnswer.{CellAnswer}
-use Rattle.cell.specs.Bytes.{from_bytes_of}
 use Rattle.table.specs.Records.{Row, held_of, room_for, row_at, rows_of, is_sound, with_row, without_cell, row_bytes, laid, keeping, refilled}
 use Rattle.table.specs.Inner.Places.{Stands, IsAt, GoesBefore}
 use Rattle.table.proofs.Laws.{sound-room, sound-ascending, rows-within, find-is-held, find-is-nothing}
 use Rattle.table.proofs.Bytes.{length-rows_from}
 use Rattle.table.proofs.Map.{length-with-new, length-with-held, without-none}
-use Rattle.layer.specs.Calls.{of_held}
-use Rattle.general.specs.Changed.{Changed, changed}
-use Rattle.layer.specs.Changes.{relaid, set_in, remove_in, clear_in}
-use Rattle.layer.proofs.Split.{set_by, remove_by}
-use Rattle.layer.proofs.Holding.{remove-says-held}
+use Rattle.general.specs.Changed.{changed}
+use Rattle.layer.specs.Changes.{relaid, clear_in}
 use Rattle.table.proofs.ChangeLaws.{with_at, with-before, without_at, laid-parts, refilled-parts, refilled-rows}
-use Rattle.layer.specs.declared.HeldAnswer.{HeldAnswer}
-use Rattle.layer.specs.declared.HeldAnswer.TheVariants.{Kept, Nothing}
-use Rattle.refusal.specs.declared.CountAnswer.TheVariants.{Cells, Refused}
-use Rattle.layer.proofs.Answers.{flags-low}
 use Rattle.table.proofs.Moved.{next-record, ends-within, spread, part-before}
 
 -- rows that there is room for are laid, others refused
-on_room : (w : ℕ) (rs : List Row) (l : List ℕ) {k : ℕ} {x : List ℕ} → k ≡ length rs → length rs ≤ room_for w l → x ≡ laid w rs l → changed (Cells k) x ≡ relaid w rs l
-on_room w rs l e h x = ap₂ (λ (k : ℕ) (m : List ℕ). changed (Cells k) m) e x ∙ sym (ap (λ (t : Bool). cond t (changed (Cells (length rs)) (laid w rs l)) (changed (Refused (NoRoom room.Layer)) l)) (le-leb (length rs) (room_for w l) h))
+on_room : (w : ℕ) (rs : List Row) (l : List ℕ) {k : ℕ} {x : List ℕ} → k ≡ length rs → length rs ≤ room_for w l → x ≡ laid w rs l → changed (Ok k) x ≡ relaid w rs l
+on_room w rs l e h x = ap₂ (λ (k : ℕ) (m : List ℕ). changed (Ok k) m) e x ∙ sym (ap (λ (t : Bool). cond t (changed (Ok (length rs)) (laid w rs l)) (changed (Err (NoRoom room.Layer)) l)) (le-leb (length rs) (room_for w l) h))
 
-on_none : (w : ℕ) (rs : List Row) (l : List ℕ) → room_for w l < length rs → changed (Refused (NoRoom room.Layer)) l ≡ relaid w rs l
-on_none w rs l h = sym (ap (λ (t : Bool). cond t (changed (Cells (length rs)) (laid w rs l)) (changed (Refused (NoRoom room.Layer)) l)) (lt-leb (length rs) (room_for w l) h))
+on_none : (w : ℕ) (rs : List Row) (l : List ℕ) → room_for w l < length rs → changed (Err (NoRoom room.Layer)) l ≡ relaid w rs l
+on_none w rs l h = sym (ap (λ (t : Bool). cond t (changed (Ok (length rs)) (laid w rs l)) (changed (Err (NoRoom room.Layer)) l)) (lt-leb (length rs) (room_for w l) h))
 
 module _ (w : ℕ) (l : List ℕ) (n : ℕ) (c : Cell) (i : ℕ) where
   -- ---- a new cell
@@ -47,7 +39,7 @@ module _ (w : ℕ) (l : List ℕ) (n : ℕ) (c : Cell) (i : ℕ) where
     unfolding Stands rows_of
     one_more = length-with-new (keeping c k) (rows_of w l n) (find-is-nothing w l c n i place) ∙ ap suc (length-rows_from w l 0 n)
 
-    pub no_room : n ≡ room_for w l → changed (Refused (NoRoom room.Layer)) l ≡ relaid w (with_row (keeping c k) (rows_of w l n)) l
+    pub no_room : n ≡ room_for w l → changed (Err (NoRoom room.Layer)) l ≡ relaid w (with_row (keeping c k) (rows_of w l n)) l
     no_room e = on_none w (with_row (keeping c k) (rows_of w l n)) l (omega (arith, one_more, e))
 
     inserted-bytes : {m x : List ℕ} → 16 ≤ w → Bytes l → w * (n + 1) ≤ length l → m ≡ paste l (w * (i + 1)) (drop (w * i) l) (w * (n - i)) → x ≡ take (w * i) m ++ (row_bytes w (keeping c k) ++ drop (w * (i + 1)) m) → x ≡ laid w (with_row (keeping c k) (rows_of w l n)) l
@@ -67,7 +59,7 @@ module _ (w : ℕ) (l : List ℕ) (n : ℕ) (c : Cell) (i : ℕ) where
         ∙ sym (laid-parts w l least bytes i i (n - i) (omega arith) (omega arith) (keeping c k))
         ∙ ap (λ (rs : List Row). laid w rs l) (sym (with-before w l n c i k place))
 
-    pub inserted : {m x : List ℕ} → 16 ≤ w → Bytes l → n < room_for w l → m ≡ paste l (w * (i + 1)) (drop (w * i) l) (w * (n - i)) → x ≡ take (w * i) m ++ (row_bytes w (keeping c k) ++ drop (w * (i + 1)) m) → changed (Cells (n + 1)) x ≡ relaid w (with_row (keeping c k) (rows_of w l n)) l
+    pub inserted : {m x : List ℕ} → 16 ≤ w → Bytes l → n < room_for w l → m ≡ paste l (w * (i + 1)) (drop (w * i) l) (w * (n - i)) → x ≡ take (w * i) m ++ (row_bytes w (keeping c k) ++ drop (w * (i + 1)) m) → changed (Ok (n + 1)) x ≡ relaid w (with_row (keeping c k) (rows_of w l n)) l
     inserted least bytes h opened put =
         on_room w (with_row (keeping c k) (rows_of w l n)) l (omega (arith, one_more)) (omega (arith, one_more)) (inserted-bytes least bytes (rows-within w l (n + 1) (omega arith)) opened put)
 
@@ -81,7 +73,7 @@ module _ (w : ℕ) (l : List ℕ) (n : ℕ) (c : Cell) (i : ℕ) where
     whole : w * n ≤ length l
     whole = rows-within w l n (sound-room w l n sound)
 
-    pub replaced : (k : ℕ) {x : List ℕ} → x ≡ take (w * i) l ++ (row_bytes w (keeping c k) ++ drop (w * (i + 1)) l) → changed (Cells n) x ≡ relaid w (with_row (keeping c k) (rows_of w l n)) l
+    pub replaced : (k : ℕ) {x : List ℕ} → x ≡ take (w * i) l ++ (row_bytes w (keeping c k) ++ drop (w * (i + 1)) l) → changed (Ok n) x ≡ relaid w (with_row (keeping c k) (rows_of w l n)) l
     unfolding Stands rows_of
     replaced k {x} put =
         let rows = with_row (keeping c k) (rows_of w l n) in
@@ -97,11 +89,11 @@ module _ (w : ℕ) (l : List ℕ) (n : ℕ) (c : Cell) (i : ℕ) where
         ∙ sym (laid-parts w l least bytes i (suc i) (n - suc i) (omega (arith, whole, after, mul-suc w i)) (omega (arith, whole, after)) (keeping c k))
         ∙ ap (λ (rs : List Row). laid w rs l) (sym (with_at w l n c i k sound place)))
 
-    pub removed : {k : ℕ} {x : List ℕ} → k ≡ (row_at w l i).kept → x ≡ take (w * i) l ++ (take (w * (n - (i + 1))) (drop (w * (i + 1)) l) ++ (replicate w 0 ++ drop (w * n) l)) → changed (Kept k) x ≡ changed (of_held (held_of c (rows_of w l n))) (refilled w n (without_cell c (rows_of w l n)) l)
+    pub removed : {k : ℕ} {x : List ℕ} → k ≡ (row_at w l i).kept → x ≡ take (w * i) l ++ (take (w * (n - (i + 1))) (drop (w * (i + 1)) l) ++ (replicate w 0 ++ drop (w * n) l)) → changed (Some k) x ≡ changed (held_of c (rows_of w l n)) (refilled w n (without_cell c (rows_of w l n)) l)
     unfolding Stands
     removed {k} {x} kept closed =
         let freed : w * (n - (i + (n - suc i))) ≡ w = ap (λ (j : ℕ). w * j) (omega (arith, place.within)) ∙ mul-one w in
-        ap₂ changed (ap Kept kept ∙ ap of_held (sym (find-is-held w l c n i sound place)))
+        ap₂ changed (ap Some kept ∙ sym (find-is-held w l c n i sound place))
         (closed
         ∙ ap (λ (j : ℕ). take (w * i) l ++ (take (w * (n - j)) (drop (w * j) l) ++ (replicate w 0 ++ drop (w * n) l))) (add-one i)
         ∙ ap (λ (z : ℕ). take (w * i) l ++ (take (w * (n - suc i)) (drop (w * suc i) l) ++ (replicate z 0 ++ drop (w * n) l))) (sym freed)
@@ -109,31 +101,13 @@ module _ (w : ℕ) (l : List ℕ) (n : ℕ) (c : Cell) (i : ℕ) where
         ∙ ap (λ (rs : List Row). refilled w n rs l) (sym (without_at w l n c i sound place)))
 
 -- a cell that has none: nothing changes
-pub not-removed : (w : ℕ) (l : List ℕ) (n : ℕ) (c : Cell) (i : ℕ) → is_sound w l n ≡ true → GoesBefore w l n c i → 16 ≤ w → Bytes l → changed Nothing l ≡ changed (of_held (held_of c (rows_of w l n))) (refilled w n (without_cell c (rows_of w l n)) l)
+pub not-removed : (w : ℕ) (l : List ℕ) (n : ℕ) (c : Cell) (i : ℕ) → is_sound w l n ≡ true → GoesBefore w l n c i → 16 ≤ w → Bytes l → changed None l ≡ changed (held_of c (rows_of w l n)) (refilled w n (without_cell c (rows_of w l n)) l)
 unfolding Stands
 not-removed w l n c i sound place least bytes =
     let none = find-is-nothing w l c n i place in
-    ap₂ changed (ap of_held (sym none))
+    ap₂ changed (sym none)
     (sym (refilled-rows w l n least bytes (rows-within w l n (sound-room w l n sound)))
     ∙ ap (λ (rs : List Row). refilled w n rs l) (sym (without-none c (rows_of w l n) none)))
-
--- ---- the calls, by what their cell's bytes and their table turned out to be
-
-module _ (w : ℕ) (l : List ℕ) (n : ℕ) where
-  pub set_given : (m : List ℕ) (k : ℕ) {a b : CellAnswer} → a ≡ from_bytes_of m → a ≡ b → set_by b w l n k ≡ set_in w l n m k
-  unfolding set_in
-  set_given m k read known = ap (λ (x : CellAnswer). set_by x w l n k) (sym known ∙ read)
-
-  pub remove-given : (m : List ℕ) {a b : CellAnswer} → a ≡ from_bytes_of m → a ≡ b → remove_by b w l n ≡ remove_in w l n m
-  unfolding remove_in
-  remove-given m read known = ap (λ (x : CellAnswer). remove_by x w l n) (sym known ∙ read)
-
-  pub by-soundness : {A : Type 0} {t : Bool} (x y : A) → is_sound w l n ≡ t → cond t x y ≡ cond (is_sound w l n) x y
-  by-soundness x y e = ap (λ (t : Bool). cond t x y) (sym e)
-
--- flags that were removed are below 2^32
-pub removed-low : (l : List ℕ) (n : ℕ) (m : List ℕ) {r : HeldAnswer} {x : List ℕ} {k : ℕ} → Bytes l → changed r x ≡ remove_in 20 l n m → r ≡ Kept k → k < 4294967296
-removed-low l n m bytes e known = flags-low l bytes n m (ap (λ (z : Changed HeldAnswer). z.said) e ∙ remove-says-held 20 l n m) known
 
 -- ---- a table cleared
 

@@ -1,6 +1,8 @@
 -- The records from the cell's place on move, and its own is written there.
 use Prim.Native.Nat.{◌+◌, ◌<◌}
 use native.Mathlib.Omega.{arith}
+use Rattle.std.proofs.Common.{rules}
+use Rattle.words.specs.Word.{Bytes}
 use Rattle.table.specs.Records.{room_for}
 use Rattle.table.proofs.Laws.{sound-room, rows-within}
 use Rattle.table.proofs.Moved.{ends-within}
@@ -32,6 +34,7 @@ overflow_add-result c =
 pub returns : goal.returns
 returns c =
     let args = c.args in
-    inserted args.width args.table.now args.count args.c args.i c.requires.place args.kept (omega arith) (λ k. omega (arith, c.slice_known-1.given k))
+    let bytes : Bytes args.table.now = search rules in
+    inserted args.width args.table.now args.count args.c args.i c.requires.place args.kept (omega arith) bytes
     (omega (arith, sound-room args.width args.table.now args.count c.requires.sound))
     c.open_record.ensures c.put_record.ensures
