@@ -14,13 +14,12 @@ use Rattle.refusal.specs.declared.Room.TheVariants as room
 use Rattle.refusal.specs.declared.Refusal.TheVariants.{NoRoom, BadLayer, BadList}
 use Rattle.words.specs.Word.{Bytes}
 use Rattle.cell.specs.Bytes.{cell_at, from_bytes_of}
-use Rattle.table.specs.Records.{most_cells, room_for, rows_of, is_sound, held_of, with_row, without_cell, laid, keeping, refilled}
+use Rattle.table.specs.Records.{most_cells, room_for, rows_of, is_sound, held_of, with_row, without_cell, keeping}
 use Rattle.table.proofs.Laws.{sound-ascending, sound-room, rows-within}
 use Rattle.table.proofs.Map.{length-with-held, length-with-new, length-without-held, without-none}
 use Rattle.table.proofs.Bytes.{length-rows_from}
 use Rattle.general.specs.Changed.{Changed, changed}
-use Rattle.layer.specs.Changes.{relaid, set_in, remove_in, left_by}
-use Rattle.layer.proofs.Split.{set_by, remove_by}
+use Rattle.layer.specs.Changes.{set_in, remove_in, left_by}
 use Rattle.table.proofs.Refills.{length-refilled}
 use Rattle.table.proofs.ChangeLaws.{refilled-rows}
 use Rattle.table.specs.Terms.{Holds}
@@ -35,32 +34,28 @@ module _ (w : ℕ) (l : List ℕ) (n : ℕ) (m : List ℕ) where
   -- a cell that has not 16 bytes is BadList, whatever the layer, and no byte changes
   pub set-bad-list : (k : ℕ) → (length m ≡ 16 → ⊥) → set_in w l n m k ≡ changed (Err BadList) l
   unfolding set_in
-  set-bad-list k other = ap (λ (a : Result Cell Refusal). set_by a w l n k) (not-a-cell m other)
+  set-bad-list k other = simp (not-a-cell m other)
 
   pub remove-bad-list : (length m ≡ 16 → ⊥) → remove_in w l n m ≡ changed (Err BadList) l
   unfolding remove_in
-  remove-bad-list other = ap (λ (a : Result Cell Refusal). remove_by a w l n) (not-a-cell m other)
+  remove-bad-list other = simp (not-a-cell m other)
 
   module _ (c : Cell) (read : from_bytes_of m ≡ Ok c) where
     -- a layer that is not sound is BadLayer, and no byte changes
     pub set-bad-layer : (k : ℕ) → is_sound w l n ≡ false → set_in w l n m k ≡ changed (Err BadLayer) l
     unfolding set_in
-    set-bad-layer k broken =
-        ap (λ (a : Result Cell Refusal). set_by a w l n k) read
-        ∙ ap (λ (t : Bool). cond t (relaid w (with_row (keeping c k) (rows_of w l n)) l) (changed (Err BadLayer) l)) broken
+    set-bad-layer k broken = simp (read, broken)
 
     pub remove-bad-layer : is_sound w l n ≡ false → remove_in w l n m ≡ changed (Err BadLayer) l
     unfolding remove_in
-    remove-bad-layer broken =
-        ap (λ (a : Result Cell Refusal). remove_by a w l n) read
-        ∙ ap (λ (t : Bool). cond t (changed (Ok (held_of c (rows_of w l n))) (refilled w n (without_cell c (rows_of w l n)) l)) (changed (Err BadLayer) l)) broken
+    remove-bad-layer broken = simp (read, broken)
 
     module _ (sound : is_sound w l n ≡ true) where
       -- rows that there is room for are answered by their number, others are NoRoom 4
       fits : (k : ℕ) → length (with_row (keeping c k) (rows_of w l n)) ≤ room_for w l → (set_in w l n m k).said ≡ Ok (length (with_row (keeping c k) (rows_of w l n)))
       fits k h =
           let rs = with_row (keeping c k) (rows_of w l n) in
-          ap (λ (z : Changed (Result ℕ Refusal)). z.said) (set_is w l n m c read sound k ∙ ap (λ (t : Bool). cond t (changed (Ok (length rs)) (laid w rs l)) (changed (Err (NoRoom room.Layer)) l)) (le-leb (length rs) (room_for w l) h))
+          simp (set_is w l n m c read sound k, le-leb (length rs) (room_for w l) h)
 
       -- a new cell is answered where there is room: one cell more
       pub set_new : (k : ℕ) → held_of c (rows_of w l n) ≡ None → n < room_for w l → (set_in w l n m k).said ≡ Ok (n + 1)
@@ -75,7 +70,7 @@ module _ (w : ℕ) (l : List ℕ) (n : ℕ) (m : List ℕ) where
       set-no-room k new full =
           let rs = with_row (keeping c k) (rows_of w l n) in
           let size : room_for w l < length rs = omega (arith, length-with-new (keeping c k) (rows_of w l n) new, length-rows_from w l 0 n) in
-          set_is w l n m c read sound k ∙ ap (λ (t : Bool). cond t (changed (Ok (length rs)) (laid w rs l)) (changed (Err (NoRoom room.Layer)) l)) (lt-leb (length rs) (room_for w l) size)
+          set_is w l n m c read sound k ∙ simp (lt-leb (length rs) (room_for w l) size)
 
       -- a cell that is kept is replaced, in a full layer too: as many cells as before
       pub set-again : (k v : ℕ) → held_of c (rows_of w l n) ≡ Some v → (set_in w l n m k).said ≡ Ok n
@@ -86,7 +81,7 @@ module _ (w : ℕ) (l : List ℕ) (n : ℕ) (m : List ℕ) where
 
       -- a remove of a cell that is kept says what was kept
       pub remove-kept : (v : ℕ) → held_of c (rows_of w l n) ≡ Some v → (remove_in w l n m).said ≡ Ok (Some v)
-      remove-kept v e = ap (λ (z : Changed (Result (Option ℕ) Refusal)). z.said) (remove-is w l n m c read sound) ∙ ap Ok e
+      remove-kept v e = simp (remove-is w l n m c read sound, e)
 
       -- and of another, that nothing was; no byte changes
       pub remove-missing : 16 ≤ w → Bytes l → held_of c (rows_of w l n) ≡ None → remove_in w l n m ≡ changed (Ok None) l

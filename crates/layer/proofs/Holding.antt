@@ -1,7 +1,7 @@
 -- The calls on a layer are those of a map: a set and a remove lay the rows that the map has after them, get says what these keep, and the layer is sound again. Over the width of a record.
 use mathlib.Core.Bool.{Bool, true, false, cond}
 use mathlib.Core.List.{List}
-use mathlib.Core.Path.{◌≡◌, refl, ap, ap₂, subst, subst⁻¹, ◌∙◌}
+use mathlib.Core.Path.{◌≡◌, refl, ap, subst, subst⁻¹, ◌∙◌}
 use Prim.Native.Nat.{ℕ, ◌-◌, ◌^◌, ◌≤◌, ◌<◌}
 use native.Mathlib.Omega.{arith}
 use borrow.Author.Tests.{leb-true}
@@ -9,7 +9,7 @@ use lib.Dec.{leb}
 use lib.ListN.{length}
 use Rattle.std.specs.Prelude.{Option, Some, None, Result, Ok, Err}
 use Rattle.refusal.specs.declared.Refusal.{Refusal}
-use Rattle.refusal.specs.declared.Refusal.TheVariants.{BadLayer, NoRoom}
+use Rattle.refusal.specs.declared.Refusal.TheVariants.{NoRoom}
 use Rattle.general.specs.Changed.{changed, Changed}
 use Rattle.refusal.specs.declared.Cell.{Cell}
 use Rattle.refusal.specs.declared.Room.TheVariants as room
@@ -22,29 +22,13 @@ use Rattle.table.proofs.Map.{with-ascending, without-ascending, length-without-h
 use Rattle.table.specs.Terms.{Holds}
 use Rattle.table.proofs.Bytes.{length-rows_from, rows-storable, with-storable, without-storable}
 use Rattle.table.proofs.Holding.{laid-holds, refilled-holds}
-use Rattle.layer.proofs.Split.{remove_by, set_by, held_by}
 use Rattle.layer.specs.Changes.{remove_in, relaid, set_in, left_by}
 use Rattle.layer.specs.Calls.{held_in}
-
--- remove says what get would have said
-pub remove-says-held : (w : ℕ) (l : List ℕ) (n : ℕ) (m : List ℕ) → (remove_in w l n m).said ≡ held_in w l n m
-unfolding remove_in held_in
-remove-says-held w l n m = by-cell (from_bytes_of m)
-  where
-    by-test : (t : Bool) (h : Result (Option ℕ) Refusal) (x : List ℕ) → (cond t (changed h x) (changed (Err BadLayer) l)).said ≡ cond t h (Err BadLayer)
-    by-test true h x = refl
-    by-test false h x = refl
-
-    by-cell : (a : Result Cell Refusal) → (remove_by a w l n).said ≡ held_by a w l n
-    by-cell (Err r) = refl
-    by-cell (Ok c) = by-test (is_sound w l n) (Ok (held_of c (rows_of w l n))) (refilled w n (without_cell c (rows_of w l n)) l)
 
 -- what get answers of them
 pub get-of-rows : (w : ℕ) (l : List ℕ) (n : ℕ) (rs : List Row) (m : List ℕ) (c : Cell) → Holds w l n rs → from_bytes_of m ≡ Ok c → held_in w l n m ≡ Ok (held_of c rs)
 unfolding held_in
-get-of-rows w l n rs m c h read =
-    ap (λ (a : Result Cell Refusal). held_by a w l n) read
-    ∙ ap₂ (λ (t : Bool) (r : List Row). cond t (Ok (held_of c r)) (Err BadLayer)) h.sound h.rows
+get-of-rows w l n rs m c h read = rw (read, h.sound, h.rows)
 
 left-rows : (c : Cell) (rs : List Row) (h : Option ℕ) → held_of c rs ≡ h → length (without_cell c rs) ≡ left_by (Ok h) (length rs)
 left-rows c rs None e = length-without-none c rs e
@@ -58,16 +42,12 @@ module _ (w : ℕ) (l : List ℕ) (n : ℕ) (m : List ℕ) (c : Cell) (read : fr
   -- a set lays the rows that the map has after it, where there is room for them
   pub set_is : (k : ℕ) → set_in w l n m k ≡ relaid w (with_row (keeping c k) (rows_of w l n)) l
   unfolding set_in
-  set_is k =
-      ap (λ (a : Result Cell Refusal). set_by a w l n k) read
-      ∙ ap (λ (t : Bool). cond t (relaid w (with_row (keeping c k) (rows_of w l n)) l) (changed (Err BadLayer) l)) sound
+  set_is k = simp (read, sound)
 
   -- a remove says what was kept, and leaves the rows that the map has after it
   pub remove-is : remove_in w l n m ≡ changed (Ok (held_of c (rows_of w l n))) (refilled w n (without_cell c (rows_of w l n)) l)
   unfolding remove_in
-  remove-is =
-      ap (λ (a : Result Cell Refusal). remove_by a w l n) read
-      ∙ ap (λ (t : Bool). cond t (changed (Ok (held_of c (rows_of w l n))) (refilled w n (without_cell c (rows_of w l n)) l)) (changed (Err BadLayer) l)) sound
+  remove-is = simp (read, sound)
 
   module _ (least : 16 ≤ w) (bytes : Bytes l) where
     -- what holds of a sound layer that has the row, and of the old one where there is no room, holds after a set

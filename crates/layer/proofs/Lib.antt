@@ -4,4 +4,3 @@ pub mod OneAnswer
 pub mod CallAnswers
 pub mod Holding
 pub mod Points
-pub mod Split

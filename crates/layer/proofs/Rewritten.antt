@@ -1,6 +1,6 @@
 -- What the moves leave in a table is the table of the changed rows.
 use mathlib.Core.Path.{◌≡◌, sym, ap, ap₂, ◌∙◌}
-use mathlib.Core.Bool.{Bool, true, cond}
+use mathlib.Core.Bool.{true}
 use mathlib.Core.List.{List, ◌++◌, flat_map, append_assoc}
 use Prim.Native.Nat.{ℕ, suc, ◌+◌, ◌-◌, ◌*◌, ◌≤◌, ◌<◌}
 use native.Mathlib.Nat.{mul-one, mul-suc, sub-zero}
@@ -26,10 +26,10 @@ use Rattle.table.proofs.Moved.{next-record, ends-within, spread, part-before}
 
 -- rows that there is room for are laid, others refused
 on_room : (w : ℕ) (rs : List Row) (l : List ℕ) {k : ℕ} {x : List ℕ} → k ≡ length rs → length rs ≤ room_for w l → x ≡ laid w rs l → changed (Ok k) x ≡ relaid w rs l
-on_room w rs l e h x = ap₂ (λ (k : ℕ) (m : List ℕ). changed (Ok k) m) e x ∙ sym (ap (λ (t : Bool). cond t (changed (Ok (length rs)) (laid w rs l)) (changed (Err (NoRoom room.Layer)) l)) (le-leb (length rs) (room_for w l) h))
+on_room w rs l e h x = rw (le-leb (length rs) (room_for w l) h) (ap₂ (λ (k : ℕ) (m : List ℕ). changed (Ok k) m) e x)
 
 on_none : (w : ℕ) (rs : List Row) (l : List ℕ) → room_for w l < length rs → changed (Err (NoRoom room.Layer)) l ≡ relaid w rs l
-on_none w rs l h = sym (ap (λ (t : Bool). cond t (changed (Ok (length rs)) (laid w rs l)) (changed (Err (NoRoom room.Layer)) l)) (lt-leb (length rs) (room_for w l) h))
+on_none w rs l h = rw (lt-leb (length rs) (room_for w l) h)
 
 module _ (w : ℕ) (l : List ℕ) (n : ℕ) (c : Cell) (i : ℕ) where
   -- ---- a new cell
