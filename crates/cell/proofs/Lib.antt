@@ -5,7 +5,6 @@ pub mod Bits
 pub mod Stored
 pub mod BytesLaws
 pub mod ListLaws
-mod Complement
 mod Filled
 pub mod OneAnswer
 pub mod Points

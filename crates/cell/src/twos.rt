@@ -6,19 +6,11 @@ ghost use Rattle.std.proofs.Common.{to_z, of_z};
 pub fn bits_of(a: i32) -> u32
     ensures { result ≡ of_z w32 a }
 {
-    if a < 0 {
-        (a - (-2147483648)) as u32 + 2147483648
-    } else {
-        a as u32
-    }
+    a.cast_unsigned()
 }
 
 pub fn of_bits(n: u32) -> i32
     ensures { result ≡ to_z w32 n }
 {
-    if n < 2147483648 {
-        n as i32
-    } else {
-        (n - 2147483648) as i32 + (-2147483648)
-    }
+    n.cast_signed()
 }

@@ -1,7 +1,6 @@
 pub mod Theorems
 pub mod Word
 pub mod Laws
-pub mod Four
-pub mod One
+pub mod Std
 pub mod Points
 pub mod OneAnswer
