@@ -5,8 +5,7 @@ pub mod StepLaws
 pub mod Walks
 pub mod AcceptedLaws
 pub mod DemandLaws
-mod Shut
-mod Parities
+pub mod Parities
 pub mod OneAnswer
 pub mod Choices
 pub mod Points

@@ -1,19 +1,18 @@
--- The verdict on lists of bytes, one test after the other: what comes before the cells, the first cell, each step, the end.
+-- The verdict on the cells of a list of bytes, one test after the other: the first cell, each step, the end.
 use mathlib.Core.Path.{◌≡◌, sym, ap, ◌∙◌}
 use mathlib.Core.Bool.{Bool, cond}
 use mathlib.Core.List.{List}
 use Prim.Native.Nat.{ℕ, suc, ◌+◌, ◌-◌, ◌*◌, ◌/◌, ◌≤◌, ◌<◌}
 use native.Mathlib.Numerals.{add-one}
 use native.Mathlib.Omega.{arith}
-use lib.Dec.{ltb}
 use lib.Ieee.{Float, binary64, add}
 use lib.ListN.{length}
 use Rattle.refusal.specs.declared.Cell.{Cell}
 use Rattle.cell.specs.Cell.{same_cell}
 use Rattle.cell.specs.Bytes.{cell_at}
 use Rattle.cell.specs.Lists.{cells_from, cells_of}
-use Rattle.table.specs.Records.{Row, rows_of, is_sound, layer}
-use Rattle.route.specs.Route.{is_step, is_shut, cost_between, Walk, stopped, arrived, walk_from, judge_walk, judge_cells, are_lists, verdict_of, claim}
+use Rattle.table.specs.Records.{Row}
+use Rattle.route.specs.Route.{is_step, is_shut, cost_between, Walk, stopped, arrived, walk_from, judge_walk, judge_cells}
 use Rattle.route.specs.Inner.Walks.{walk_at, walk_of}
 
 module _ (l : List ℕ) (rule : ℕ) (rows : List Row) (i : ℕ) (last : Cell) (paid : Float) where
@@ -36,22 +35,14 @@ module _ (l : List ℕ) (rule : ℕ) (rows : List Row) (i : ℕ) (last : Cell) (
 
 module _ (l : List ℕ) (rule : ℕ) (rows : List Row) (start goal : Cell) (cost : ℕ) where
   -- no cell
-  pub judge-empty : length l ≡ 0 → judge_cells rule rows start goal cost (cells_of l) ≡ 20
+  pub judge_empty : length l ≡ 0 → judge_cells rule rows start goal cost (cells_of l) ≡ 20
   unfolding judge_cells cells_of cells_from
-  judge-empty e = let none : length l / 16 ≡ 0 = omega arith in ap (λ (n : ℕ). judge_cells rule rows start goal cost (cells_from l 0 n)) none
+  judge_empty e = let none : length l / 16 ≡ 0 = omega arith in ap (λ (n : ℕ). judge_cells rule rows start goal cost (cells_from l 0 n)) none
 
   -- whether the first is the start decides whether the walk is judged
-  pub judge-start : {t : Bool} → 16 ≤ length l → same_cell (cell_at l 0) start ≡ t → judge_cells rule rows start goal cost (cells_of l) ≡ cond t (judge_walk goal cost (walk_of l rule rows)) 21
+  pub judge_start : {t : Bool} → 16 ≤ length l → same_cell (cell_at l 0) start ≡ t → judge_cells rule rows start goal cost (cells_of l) ≡ cond t (judge_walk goal cost (walk_of l rule rows)) 21
   unfolding judge_cells cells_of cells_from
-  judge-start h e =
+  judge_start h e =
       let some : length l / 16 ≡ suc (length l / 16 - 1) = omega arith in
       ap (λ (n : ℕ). judge_cells rule rows start goal cost (cells_from l 0 n)) some
       ∙ ap (λ (t : Bool). cond t (judge_walk goal cost (walk_of l rule rows)) 21) e
-
--- the three tests that come first
-pub verdict-tests : (route start goal : List ℕ) (cost : ℕ) (l : List ℕ) (n rule : ℕ) {lists sound known : Bool} → are_lists route start goal ≡ lists → is_sound 20 l n ≡ sound → ltb rule 2 ≡ known
-    → cond lists (cond sound (cond known (judge_cells rule (rows_of 20 l n) (cell_at start 0) (cell_at goal 0) cost (cells_of route)) 15) 14) 13 ≡ verdict_of (claim route start goal cost) (layer l n) rule
-unfolding verdict_of
-verdict-tests route start goal cost l n rule e f g =
-    let judged = judge_cells rule (rows_of 20 l n) (cell_at start 0) (cell_at goal 0) cost (cells_of route) in
-    λ i. cond (sym e i) (cond (sym f i) (cond (sym g i) judged 15) 14) 13

@@ -1,2 +1,3 @@
 pub mod Near
 pub mod Walks
+pub mod Numbers

@@ -8,6 +8,7 @@ ghost use Rattle.route.specs.Inner.Near.{short_square, is_near};
 ghost use Rattle.route.specs.Route.{is_step, cost_between, is_shut, arrived, judge_walk, judge_cells, are_lists, verdict_of, claim};
 ghost use Rattle.route.specs.Choice.{choice_between, Chosen};
 ghost use Rattle.route.specs.Inner.Walks.{walk_of};
+ghost use Rattle.route.specs.Inner.Numbers.{fault_number, judged, flown_number};
 ghost use Rattle.cell.specs.Bytes.{cell_width};
 
 use refusal::{Cell, Coord, Refusal};
@@ -43,6 +44,7 @@ pub fn is_step(a: Cell, b: Cell) -> bool
 const ROOT_THREE: u64 = 0x3FFB_B67A_E858_4CAA;
 
 // What a step costs: its length, by whether it changes the parity.
+#[tactic(auto, using(crate::proofs::Parities::parities), unfolding(crate::specs::Route::cost_between))]
 pub fn step_cost(a: Cell, b: Cell) -> f64
     ensures { result ≡ cost_between a b }
 {
@@ -56,10 +58,12 @@ pub fn step_cost(a: Cell, b: Cell) -> f64
 }
 
 // Whether the rule keeps the drone from entering a cell.
+#[tactic(auto, unfolding(crate::specs::Route::is_shut))]
 pub fn is_shut(flags: &[u8], count: usize, rule: u32, c: Cell) -> bool
     requires { is_sound flag_width flags.now count ≡ true }
     ensures { result ≡ is_shut rule (rows_of flag_width flags.now count) c }
 {
+    // Kept: the rule is a number, as C hands it over, and `is_shut` of Route.antt reads it so.
     if rule != 1 {
         return false;
     }
@@ -69,50 +73,64 @@ pub fn is_shut(flags: &[u8], count: usize, rule: u32, c: Cell) -> bool
     }
 }
 
-// The verdicts of the checker; refusals 13, 14 and 15 come before them.
-const ACCEPTED: u32 = 0;
-
-const EMPTY: u32 = 20;
-
-const WRONG_START: u32 = 21;
-
-const NOT_A_NEIGHBOR: u32 = 22;
-
-const BLOCKED: u32 = 23;
-
-const WRONG_GOAL: u32 = 24;
-
-const WRONG_COST: u32 = 25;
-
-// The verdict at the end of a list without a wrong step.
-fn arrive(last: Cell, paid: f64, goal: Cell, cost: u64) -> u32
-    ensures { result ≡ judge_walk goal cost (arrived last paid) }
-{
-    if cell::same(last, goal) {
-        if float::bits(paid) == cost {
-            return ACCEPTED;
-        }
-        return WRONG_COST;
-    }
-    WRONG_GOAL
+// What is wrong with a list of cells, with the verdict that tells it; refusals 13, 14 and 15 come before them.
+#[derive(Clone, Copy, PartialEq, Eq)]
+pub enum Fault {
+    Empty = 20,
+    WrongStart = 21,
+    NotANeighbor = 22,
+    Blocked = 23,
+    WrongGoal = 24,
+    WrongCost = 25,
 }
 
-// The verdict on a list that begins at its start, step by step; no cell is tested before it is entered.
+impl Fault {
+    fn number(self) -> u32
+        ensures { result ≡ fault_number self }
+    {
+        self as u32
+    }
+}
+
+// The verdict on an accepted list.
+const ACCEPTED: u32 = 0;
+
+// What is wrong at the end of a list without a wrong step.
+fn arrive(last: Cell, paid: f64, goal: Cell, cost: u64) -> Result<(), Fault>
+    ensures { judged result ≡ judge_walk goal cost (arrived last paid) }
+{
+    if !cell::same(last, goal) {
+        return Err(Fault::WrongGoal);
+    }
+    if float::bits(paid) != cost {
+        return Err(Fault::WrongCost);
+    }
+    Ok(())
+}
+
+// Judges a list that begins at its start, step by step; no cell is tested before it is entered.
 #[tactic(auto, using(crate::proofs::Walks::walk_step, crate::proofs::Walks::walk_end))]
-fn walk(route: &[u8], goal: Cell, cost: u64, flags: &[u8], count: usize, rule: u32) -> u32
+fn walk(
+    route: &[u8],
+    goal: Cell,
+    cost: u64,
+    flags: &[u8],
+    count: usize,
+    rule: u32,
+) -> Result<(), Fault>
     requires cell_width_in_bounds { cell_width ≤ length route.now }
     requires count_value { is_sound flag_width flags.now count ≡ true }
-    ensures { result ≡ judge_walk goal cost (walk_of route.now rule (rows_of flag_width flags.now count)) }
+    ensures { judged result ≡ judge_walk goal cost (walk_of route.now rule (rows_of flag_width flags.now count)) }
 {
     let mut last = cell::read_at(route, 0);
     let mut paid = 0.0;
     for i in 1..route.len() / cell::CELL_WIDTH {
         let next = cell::read_at(route, cell::CELL_WIDTH * i);
         if !is_step(last, next) {
-            return NOT_A_NEIGHBOR;
+            return Err(Fault::NotANeighbor);
         }
         if is_shut(flags, count, rule, next) {
-            return BLOCKED;
+            return Err(Fault::Blocked);
         }
         paid += step_cost(last, next);
         last = next;
@@ -120,7 +138,8 @@ fn walk(route: &[u8], goal: Cell, cost: u64, flags: &[u8], count: usize, rule: u
     arrive(last, paid, goal, cost)
 }
 
-// The verdict on a list of cells in a sound layer.
+// Judges a list of cells in a sound layer.
+#[tactic(auto, using(crate::proofs::Walks::judge_empty, crate::proofs::Walks::judge_start))]
 fn judge(
     route: &[u8],
     start: Cell,
@@ -129,18 +148,18 @@ fn judge(
     flags: &[u8],
     count: usize,
     rule: u32,
-) -> u32
+) -> Result<(), Fault>
     requires route_value { is_list route.now ≡ true }
     requires count_value { is_sound flag_width flags.now count ≡ true }
-    ensures { result ≡ judge_cells rule (rows_of flag_width flags.now count) start goal cost (cells_of route.now) }
+    ensures { judged result ≡ judge_cells rule (rows_of flag_width flags.now count) start goal cost (cells_of route.now) }
 {
-    if route.len() == 0 {
-        return EMPTY;
+    if route.is_empty() {
+        return Err(Fault::Empty);
     }
-    if cell::same(cell::read_at(route, 0), start) {
-        return walk(route, goal, cost, flags, count, rule);
+    if !cell::same(cell::read_at(route, 0), start) {
+        return Err(Fault::WrongStart);
     }
-    WRONG_START
+    walk(route, goal, cost, flags, count, rule)
 }
 
 // Whether the route is a list of cells, and the start and the goal are one cell each.
@@ -153,6 +172,7 @@ fn are_lists(route: &[u8], start: &[u8], goal: &[u8]) -> bool
 }
 
 // The verdict on a route with its two ends and its claimed cost, in a flag layer under a rule: 0 where it is accepted, else the number of the first failing.
+#[tactic(auto, unfolding(crate::specs::Route::verdict_of))]
 pub fn verdict(
     route: &[u8],
     start: &[u8],
@@ -175,18 +195,58 @@ pub fn verdict(
     }
     let first = cell::read_at(start, 0);
     let last = cell::read_at(goal, 0);
-    judge(route, first, last, cost, flags, count, rule)
+    match judge(route, first, last, cost, flags, count, rule) {
+        Ok(()) => ACCEPTED,
+        Err(fault) => fault.number(),
+    }
 }
 
-// The choices between two routes.
-const NEITHER: u32 = 0;
+// Which of two routes is flown.
+#[derive(Clone, Copy, PartialEq, Eq)]
+pub enum Flown {
+    Neither = 0,
+    Sent = 1,
+    Homing = 2,
+}
 
-const SENT: u32 = 1;
-
-const HOMING: u32 = 2;
+impl Flown {
+    fn number(self) -> u32
+        ensures { result ≡ flown_number self }
+    {
+        self as u32
+    }
+}
 
 // Which of two routes is flown, by their verdicts: the sent one, from `start` to `goal` at `cost`, before the homing one, from `departure` to `home`
 // at `price`.
+#[tactic(auto, unfolding(crate::specs::Route::choice_of))]
+fn chosen(
+    sent: &[u8],
+    homing: &[u8],
+    start: &[u8],
+    goal: &[u8],
+    cost: u64,
+    departure: &[u8],
+    home: &[u8],
+    price: u64,
+    flags: &[u8],
+    count: usize,
+    rule: u32,
+) -> Flown
+    ensures { let sending = claim sent.now start.now goal.now cost in
+        let returning = claim homing.now departure.now home.now price in
+        flown_number result ≡ choice_between sending returning (layer flags.now count) rule }
+{
+    if verdict(sent, start, goal, cost, flags, count, rule) == ACCEPTED {
+        return Flown::Sent;
+    }
+    if verdict(homing, departure, home, price, flags, count, rule) == ACCEPTED {
+        return Flown::Homing;
+    }
+    Flown::Neither
+}
+
+// The number of the choice between two routes: 0 neither, 1 the sent one, 2 the homing one.
 pub fn choice(
     sent: &[u8],
     homing: &[u8],
@@ -204,13 +264,10 @@ pub fn choice(
         let returning = claim homing.now departure.now home.now price in
         result ≡ choice_between sending returning (layer flags.now count) rule }
 {
-    if verdict(sent, start, goal, cost, flags, count, rule) == ACCEPTED {
-        return SENT;
-    }
-    if verdict(homing, departure, home, price, flags, count, rule) == ACCEPTED {
-        return HOMING;
-    }
-    NEITHER
+    chosen(
+        sent, homing, start, goal, cost, departure, home, price, flags, count, rule,
+    )
+    .number()
 }
 
 // Hands back the sent list itself, or the homing list itself, or the first no bytes of the sent one, as `choice` says.
@@ -231,14 +288,11 @@ pub fn choose<'a>(
         let returning = claim homing.now departure.now home.now price in
         Chosen (choice_between sending returning (layer flags.now count) rule) sent.entry homing.entry result }
 {
-    let which = choice(
+    match chosen(
         sent, homing, start, goal, cost, departure, home, price, flags, count, rule,
-    );
-    if which == SENT {
-        return sent;
+    ) {
+        Flown::Sent => sent,
+        Flown::Homing => homing,
+        Flown::Neither => &sent[..0],
     }
-    if which == HOMING {
-        return homing;
-    }
-    &sent[..0]
 }
