@@ -38,12 +38,7 @@ listed-in-all true w room from to ordered =
     ap (λ (k : ℕ). known_cells w room from ++ cells_in w room k (to - from)) place ∙ cells-joined w room 0 from (to - from) ∙ ap (cells_in w room 0) size
 listed-in-all false w room from to ordered = refl
 
--- the code's choice
-pub first-chosen : (every : Bool) (from first : ℕ) → ((every ≡ true) × (first ≡ 0)) ⊎ ((every ≡ false) × (first ≡ from)) → first ≡ first_of every from
-first-chosen every from first (inl (e, f)) = f ∙ ap (λ (b : Bool). cond b 0 from) (sym e)
-first-chosen every from first (inr (e, f)) = f ∙ ap (λ (b : Bool). cond b 0 from) (sym e)
-
-pub first-within : (every : Bool) (from first : ℕ) → first ≡ first_of every from → first ≤ from
+first-within : (every : Bool) (from first : ℕ) → first ≡ first_of every from → first ≤ from
 first-within true from first e = omega arith
 first-within false from first e = omega arith
 

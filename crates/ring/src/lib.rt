@@ -12,6 +12,7 @@ ghost use Rattle.ring.specs.Inner.State.{cells_between, sight_in, Shows, Sees, L
 ghost use Rattle.known.specs.Workspace.{in_rooms};
 
 use refusal::{Cell, Refusal, Room};
+use std::ops::Range;
 
 // How many known cells, waiting cells and listed cells there is room for.
 #[derive(Clone, Copy)]
@@ -19,13 +20,6 @@ pub struct Rooms {
     pub known: usize,
     pub waiting: usize,
     pub output: usize,
-}
-
-// Records from one up to another.
-#[derive(Clone, Copy)]
-pub struct Span {
-    pub from: usize,
-    pub to: usize,
 }
 
 // One neighbour, while the records from `next` on wait.
@@ -116,8 +110,8 @@ fn level(
     Ok(count)
 }
 
-// Level after level, until the last cells are found or a level is empty.
-fn levels(workspace: &mut [u8], every: bool, rooms: Rooms, k: u64) -> Result<Span, Refusal>
+// Level after level, until the last cells are found or a level is empty: the records of the last ones.
+fn levels(workspace: &mut [u8], every: bool, rooms: Rooms, k: u64) -> Result<Range<usize>, Refusal>
     requires { Known workspace.old rooms.known 1 }
     ensures { let w = workspace.old in
         let cells = cells_between w rooms.known 0 1 in
@@ -134,7 +128,7 @@ fn levels(workspace: &mut [u8], every: bool, rooms: Rooms, k: u64) -> Result<Spa
         from = to;
         to = more;
     }
-    Ok(Span { from, to })
+    Ok(from..to)
 }
 
 // The cells of the records from one up to another at the front of a buffer that holds them.
@@ -152,21 +146,21 @@ fn finish(
     workspace: &[u8],
     every: bool,
     rooms: Rooms,
-    last: Span,
+    last: Range<usize>,
     output: &mut [u8],
 ) -> Result<usize, Refusal>
     requires { Finishable every workspace.now rooms last output.old }
     ensures { let w = workspace.now in
-        let cells = cells_between w rooms.known last.from last.to in
-        let s = sight_in every w rooms.known last.to last.to last.from in
+        let cells = cells_between w rooms.known last.start last.end in
+        let s = sight_in every w rooms.known last.end last.end last.start in
         changed result output.new ≡ listed_by (list_all rooms cells s) output.old }
 {
-    let first = if every { 0 } else { last.from };
-    let count = last.to - first;
+    let first = if every { 0 } else { last.start };
+    let count = last.end - first;
     if count > rooms.output {
         return Err(Refusal::NoRoom(Room::Output));
     }
-    write(workspace, rooms.known, first, last.to, output);
+    write(workspace, rooms.known, first, last.end, output);
     Ok(count)
 }
 

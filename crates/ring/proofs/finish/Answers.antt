@@ -1,22 +1,24 @@
 -- The records from the first one to be listed up to the last are written where they fit.
 use Rattle.std.specs.Prelude.{Ok}
-use mathlib.Core.Path.{ap, ◌∙◌}
+use mathlib.Core.Path.{◌≡◌, refl, ap, ◌∙◌}
 use mathlib.Core.List.{List}
-use mathlib.Core.Logic.{inl, inr}
 use Prim.Native.Nat.{ℕ, ◌-◌}
 use Rattle.general.specs.Changed.{changed}
-use Rattle.ring.proofs.Finished.{first-chosen, finished-all, finished-refused}
+use Rattle.ring.proofs.Finished.{first_of, finished-all, finished-refused}
 use Rattle.ring.proofs.finish.Goals as goal
-use Rattle.ring.proofs.finish.Goals.{then-every, else-every}
+use Rattle.ring.proofs.finish.Goals.{Joined-every, then-every, else-every}
+
+chosen : (c : Joined-every) → c.if-every.first ≡ first_of c.args.every c.args.last.start
+chosen c = elim c.if-every.branch [ then-every w ↦ rw (w.if-every.true, w.first-is) refl | else-every w ↦ rw (w.if-every.false, w.first-is) refl ]
 
 pub returns-then-count-rooms : goal.returns-then-count-rooms
 returns-then-count-rooms c =
-    let args = c.args in
-    finished-refused args.every args.workspace.now args.rooms args.last.from args.last.to c.if-every.first args.output.now c.requires.ordered (first-chosen c.args.every c.args.last.from c.if-every.first (elim c.if-every.branch [ then-every w ↦ inl (w.if-every.true, w.first-is) | else-every w ↦ inr (w.if-every.false, w.first-is) ])) c.requires.listed c.if-count-rooms.true
+    let a = c.args in
+    finished-refused a.every a.workspace.now a.rooms a.last.start a.last.end c.if-every.first a.output.now c.requires.ordered (chosen (goal.at.returns-then-count-rooms c).Joined-every) c.requires.listed c.if-count-rooms.true
 
 pub returns : goal.returns
 returns c =
-    let args = c.args in
+    let a = c.args in
     let first = c.if-every.first in
-    ap (λ (l : List ℕ). changed (Ok (args.last.to - first)) l) c.write.ensures
-    ∙ finished-all args.every args.workspace.now args.rooms args.last.from args.last.to first args.output.now c.requires.ordered (first-chosen c.args.every c.args.last.from c.if-every.first (elim c.if-every.branch [ then-every w ↦ inl (w.if-every.true, w.first-is) | else-every w ↦ inr (w.if-every.false, w.first-is) ])) c.if-count-rooms.false
+    ap (λ (l : List ℕ). changed (Ok (a.last.end - first)) l) c.write.ensures
+    ∙ finished-all a.every a.workspace.now a.rooms a.last.start a.last.end first a.output.now c.requires.ordered (chosen (goal.at.returns c).Joined-every) c.if-count-rooms.false

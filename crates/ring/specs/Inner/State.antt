@@ -7,7 +7,7 @@ use Rattle.general.specs.Changed.{Changed, changed}
 use Rattle.known.specs.Inner.Known.{cell_in, cells_in, known_cells, Known}
 use Rattle.cell_list.specs.Listing.{room_in}
 use Rattle.ring.specs.declared.Rooms.{Rooms}
-use Rattle.ring.specs.declared.Span.{Span}
+use Rattle.std.specs.declared.ops.Range.{Range}
 use Rattle.ring.specs.Ring.{Sight, sight, Walk, going, stopped, list_all, walk_of, listed_by}
 
 -- the cells of the records from `from` up to `to`
@@ -49,8 +49,8 @@ pub record Last (every : Bool) (l l' : List ℕ) (rooms : Rooms) (from to : ℕ)
   pub rest : w ≡ list_all rooms (cells_between l' rooms.known from to) (sight_in every l' rooms.known to to from)
 
 -- what was reached is the walk w of the definition: at its last cells, or refused
-abbrev pub Reaches : Bool → List ℕ → List ℕ → Rooms → Result Span Refusal → Walk → Type 0
-Reaches every l l' rooms (Ok s) w = Last every l l' rooms s.from s.to w
+abbrev pub Reaches : Bool → List ℕ → List ℕ → Rooms → Result (Range ℕ) Refusal → Walk → Type 0
+Reaches every l l' rooms (Ok s) w = Last every l l' rooms s.start s.end w
 Reaches every l l' rooms (Err r) w = (length l' ≡ length l) × (w ≡ stopped r)
 
 -- ---- what is asked before cells are listed
@@ -62,10 +62,10 @@ pub record Listable (l : List ℕ) (room from to : ℕ) (output : List ℕ) : Ty
   pub room-left : to - from ≤ room_in output
 
 -- the last cells of a walk are known, a ring had output room for all before them, and the output room is that of the buffer
-pub record Finishable (every : Bool) (l : List ℕ) (rooms : Rooms) (last : Span) (output : List ℕ) : Type 0 where
-  pub known : Known l rooms.known last.to
-  pub ordered : last.from ≤ last.to
-  pub listed : every ≡ true → last.from ≤ rooms.output
+pub record Finishable (every : Bool) (l : List ℕ) (rooms : Rooms) (last : Range ℕ) (output : List ℕ) : Type 0 where
+  pub known : Known l rooms.known last.end
+  pub ordered : last.start ≤ last.end
+  pub listed : every ≡ true → last.start ≤ rooms.output
   pub same-room : rooms.output ≡ room_in output
 
 -- the answer and the output of a call whose centre was read
