@@ -74,22 +74,23 @@ module _ {every : Bool} {rooms : Rooms} {from to : ℕ} {l₀ l : List ℕ} {cou
 
   module _ (l' : List ℕ) (less : i < to) (room : every ≡ true → i < rooms.output) where
     -- what expanding the cell showed
-    shown : (r : Result ℕ Refusal) (c : Cell) → c ≡ cell_in l rooms.known i → Sees rooms (i + 1) count l l' r (λ others. expand rooms others c) → Shows every l l' rooms.known count to (i + 1) r (expand rooms (to - (i + 1)) (cell_in l rooms.known i) (sight_in every l rooms.known count to (i + 1)))
-    shown r c read sees =
+    shown : (r : Result ℕ Refusal) (c : Cell) (next : ℕ) → next ≡ i + 1 → c ≡ cell_in l rooms.known i → Sees rooms next count l l' r (λ others. expand rooms others c) → Shows every l l' rooms.known count to (i + 1) r (expand rooms (to - (i + 1)) (cell_in l rooms.known i) (sight_in every l rooms.known count to (i + 1)))
+    shown r c next behind read sees =
         let more = here.grown.more in
         let s = sight_in every l rooms.known count to (i + 1) in
-        subst (λ (d : Cell). Shows every l l' rooms.known count to (i + 1) r (expand rooms (to - (i + 1)) d s)) read (sees every to (i + 1) (omega arith) (omega arith) (omega arith))
+        subst (λ (d : Cell). Shows every l l' rooms.known count to (i + 1) r (expand rooms (to - (i + 1)) d s)) read
+        (subst (λ (j : ℕ). Shows every l l' rooms.known count to (i + 1) r (expand rooms (to - j) c s)) behind (sees every to (i + 1) (omega arith) (omega arith) (omega arith)))
 
-    pub level-stopped : {r : Refusal} {c : Cell} → c ≡ cell_in l rooms.known i → Sees rooms (i + 1) count l l' (Err r) (λ others. expand rooms others c) → Shows every l₀ l' rooms.known to to to (Err r) (level every rooms (cells_between l₀ rooms.known from to) (sight_in every l₀ rooms.known to to from))
-    level-stopped {r = r} {c = c} read sees =
-        let now = shown (Err r) c read sees in (
+    pub level-stopped : {r : Refusal} {c : Cell} {next : ℕ} → next ≡ i + 1 → c ≡ cell_in l rooms.known i → Sees rooms next count l l' (Err r) (λ others. expand rooms others c) → Shows every l₀ l' rooms.known to to to (Err r) (level every rooms (cells_between l₀ rooms.known from to) (sight_in every l₀ rooms.known to to from))
+    level-stopped {r = r} {c = c} {next = next} behind read sees =
+        let now = shown (Err r) c next behind read sees in (
           now.0 ∙ here.grown.length-kept,
           level-next less room ∙ ap (λ (v : Walk). and_then v (level every rooms (cells_between l₀ rooms.known (i + 1) to))) now.1,
         )
 
-    pub level-more : {m : ℕ} {c : Cell} → c ≡ cell_in l rooms.known i → Sees rooms (i + 1) count l l' (Ok m) (λ others. expand rooms others c) → LevelTo every rooms from to l₀ l' m (i + 1)
-    level-more {m = m} {c = c} read sees =
-        let now = shown (Ok m) c read sees in
+    pub level-more : {m : ℕ} {c : Cell} {next : ℕ} → next ≡ i + 1 → c ≡ cell_in l rooms.known i → Sees rooms next count l l' (Ok m) (λ others. expand rooms others c) → LevelTo every rooms from to l₀ l' m (i + 1)
+    level-more {m = m} {c = c} {next = next} behind read sees =
+        let now = shown (Ok m) c next behind read sees in
         record {
           grown = grown-twice here.grown now.0;
           listed = λ ring fits. omega (arith, room ring);
