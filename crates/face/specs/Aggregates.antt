@@ -1,6 +1,8 @@
 -- The aggregates and the rollup of a value layer for C: an aggregation is its number, in the order of the enum. List and layer are tested before the number, so one that stands for no
 -- aggregation is OutOfRange after BadList and BadLayer. An aggregate is told by its bits. Definitions only.
-use Rattle.std.specs.Prelude.{List, [], ◌∷◌, ℕ, get_or}
+use Rattle.refusal.specs.declared.Refusal.{Refusal}
+use Rattle.aggregate.specs.declared.Aggregation.{Aggregation}
+use Rattle.std.specs.Prelude.{List, [], ◌∷◌, ℕ, get_or, Result, Err, Option, Some, None}
 use Rattle.std.specs.Float.{binary64}
 use Rattle.std.specs.Float.Ieee.{to_bits}
 use Rattle.refusal.specs.declared.Refusal.TheVariants as refusal
@@ -12,23 +14,19 @@ use Rattle.aggregate.specs.declared.Aggregated.TheVariants.{Number, NoValues, Ha
 use Rattle.aggregate.specs.declared.AggregateAnswer.{AggregateAnswer}
 use Rattle.aggregate.specs.declared.AggregateAnswer.TheVariants as answer
 use Rattle.aggregate.specs.Aggregate.{aggregate_in}
-use Rattle.refusal.specs.declared.CountAnswer.{CountAnswer}
-use Rattle.refusal.specs.declared.CountAnswer.TheVariants as count
 use Rattle.general.specs.Changed.{Changed, changed}
 use Rattle.rollup.specs.Rollup.{rollup_in}
 use Rattle.face.specs.declared.BitsTold.{BitsTold}
-use Rattle.face.specs.declared.Asked.{Asked}
-use Rattle.face.specs.declared.Asked.TheVariants.{For, Unknown}
 use Rattle.face.specs.Told.{bits_told, no_bits}
 use Rattle.general.specs.Refuse.{refuse_unless}
 
 -- the aggregations in the order of their numbers
-abbrev pub aggregations : List Asked
-aggregations = For Count ∷ For Sum ∷ For Mean ∷ For Min ∷ For Max ∷ For Median ∷ []
+abbrev pub aggregations : List (Option Aggregation)
+aggregations = Some Count ∷ Some Sum ∷ Some Mean ∷ Some Min ∷ Some Max ∷ Some Median ∷ []
 
 -- which aggregation a number stands for, if any
-unfoldable pub aggregation_of : ℕ → Asked
-aggregation_of how = get_or aggregations how Unknown
+unfoldable pub aggregation_of : ℕ → Option Aggregation
+aggregation_of how = get_or aggregations how None
 
 -- an aggregate for C: its bits, or NoValues or HasNaN
 abbrev pub of_aggregated : Aggregated → BitsTold
@@ -47,9 +45,9 @@ unfolding is_sound
 no_aggregation l n cells = no_bits (refuse_unless (is_list cells) refusal.BadList (refuse_unless (is_sound value_width l n) refusal.BadLayer refusal.OutOfRange))
 
 -- what C is told by what it asked for
-abbrev pub aggregate_by : Asked → List ℕ → ℕ → List ℕ → BitsTold
-aggregate_by (For how) l n cells = of_aggregate (aggregate_in how l n cells)
-aggregate_by Unknown l n cells = no_aggregation l n cells
+abbrev pub aggregate_by : Option Aggregation → List ℕ → ℕ → List ℕ → BitsTold
+aggregate_by (Some how) l n cells = of_aggregate (aggregate_in how l n cells)
+aggregate_by None l n cells = no_aggregation l n cells
 
 -- the aggregate of the values of a list's cells, by the aggregation's number
 unfoldable pub aggregate_told : List ℕ → ℕ → List ℕ → ℕ → BitsTold
@@ -59,16 +57,16 @@ aggregate_told l n cells how = aggregate_by (aggregation_of how) l n cells
 -- ---- rollup
 
 -- what is said where the number stands for no aggregation: BadLayer, OutOfRange
-unfoldable pub no_rollup : List ℕ → ℕ → CountAnswer
+unfoldable pub no_rollup : List ℕ → ℕ → Result ℕ Refusal
 unfolding is_sound
-no_rollup fine n = count.Refused (refuse_unless (is_sound value_width fine n) refusal.BadLayer refusal.OutOfRange)
+no_rollup fine n = Err (refuse_unless (is_sound value_width fine n) refusal.BadLayer refusal.OutOfRange)
 
 -- what is said by what C asked for, and what stands in the coarse table
-abbrev pub rollup_by : Asked → List ℕ → ℕ → List ℕ → Changed CountAnswer
-rollup_by (For how) fine n coarse = rollup_in how fine n coarse
-rollup_by Unknown fine n coarse = changed (no_rollup fine n) coarse
+abbrev pub rollup_by : Option Aggregation → List ℕ → ℕ → List ℕ → Changed (Result ℕ Refusal)
+rollup_by (Some how) fine n coarse = rollup_in how fine n coarse
+rollup_by None fine n coarse = changed (no_rollup fine n) coarse
 
 -- the rollup by the aggregation's number
-unfoldable pub rollup_asked : List ℕ → ℕ → ℕ → List ℕ → Changed CountAnswer
+unfoldable pub rollup_asked : List ℕ → ℕ → ℕ → List ℕ → Changed (Result ℕ Refusal)
 unfolding rollup_in aggregation_of no_rollup
 rollup_asked fine n how coarse = rollup_by (aggregation_of how) fine n coarse

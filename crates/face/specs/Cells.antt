@@ -1,18 +1,12 @@
 -- The calls of the C face on cells: each takes a cell as its 16 bytes, refuses another length by BadList, and is then the definition of `cell`, told to C.
 -- Definitions only.
-use Rattle.std.specs.Prelude.{cond, ℕ, ℤ, pos, negsuc}
+use Rattle.std.specs.declared.cmp.Ordering.{Ordering}
+use Rattle.std.specs.declared.cmp.Ordering.TheVariants.{Less, Equal, Greater}
+use Rattle.std.specs.Prelude.{cond, ℕ, ℤ, pos, negsuc, Result, Ok, Err}
 use mathlib.Core.List.{List, flat_map}
 use Rattle.refusal.specs.declared.Coord.{Coord}
 use Rattle.refusal.specs.declared.Cell.{Cell}
 use Rattle.refusal.specs.declared.Refusal.{Refusal}
-use Rattle.refusal.specs.declared.Outcome.TheVariants as outcome
-use Rattle.lattice.specs.declared.CoordAnswer.TheVariants as coord
-use Rattle.cell.specs.declared.CellAnswer.{CellAnswer}
-use Rattle.cell.specs.declared.CellAnswer.TheVariants.{Is, Refused}
-use Rattle.cell.specs.declared.Order.{Order}
-use Rattle.cell.specs.declared.Order.TheVariants.{Below, Same, Above}
-use Rattle.cell.specs.declared.Between.{Between}
-use Rattle.cell.specs.declared.Between.TheVariants as between
 use Rattle.cell.specs.Cell.{frame_of, resolution_of, exponent_of, flags_of, reserved_of, x_of, y_of, z_of, coord_of, lattice_coord_of, new_of, is_plain, order_of, neighbors_of, children_of, parent_of, ancestor_of, between_of, manhattan_cells, distance_cells}
 use Rattle.cell.specs.Bytes.{cell_bytes, from_bytes_of, on_cell, on_cells}
 use Rattle.distance.specs.Distance.{distance_of}
@@ -21,7 +15,7 @@ use Rattle.face.specs.declared.NumberTold.{NumberTold}
 use Rattle.face.specs.declared.BitsTold.{BitsTold}
 use Rattle.face.specs.declared.CoordTold.{CoordTold}
 use Rattle.face.specs.declared.FieldsTold.{FieldsTold}
-use Rattle.face.specs.Told.{Filled, filled, fill, answered, told_of, number_told, no_number, of_number, no_bits, of_distance, of_coord}
+use Rattle.face.specs.Told.{Filled, filled, fill_by, answered, told_of, number_told, no_number, of_number, no_bits, of_distance, of_coord}
 
 -- ---- cells into a lent buffer
 
@@ -34,9 +28,8 @@ abbrev pub unfilled : List ℕ → Refusal → Filled ℕ
 unfilled out r = filled (told_of r) out
 
 -- an answered cell's bytes at the front of a buffer
-abbrev pub fill_cell : List ℕ → CellAnswer → Filled ℕ
-fill_cell out (Refused r) = unfilled out r
-fill_cell out (Is c) = fill outcome.Answered (cell_bytes c) out
+abbrev pub fill_cell : List ℕ → Result Cell Refusal → Filled ℕ
+fill_cell out a = fill_by cell_bytes a out
 
 -- a new cell of these fields, into a buffer
 unfoldable pub new_told : ℕ → ℕ → Coord → ℕ → ℕ → List ℕ → Filled ℕ
@@ -46,12 +39,12 @@ new_told frame resolution c exponent flags out = fill_cell out (new_of frame res
 -- the 14 neighbours of a cell, into a buffer
 unfoldable pub neighbors_told : List ℕ → List ℕ → Filled ℕ
 unfolding from_bytes_of neighbors_of flat_map cell_bytes
-neighbors_told cell out = on_cell (unfilled out) (λ c. let n = neighbors_of c in fill n.outcome (cells_bytes n.cells) out) cell
+neighbors_told cell out = on_cell (unfilled out) (λ c. fill_by cells_bytes (neighbors_of c) out) cell
 
 -- the 8 children of a cell, into a buffer
 unfoldable pub children_told : List ℕ → List ℕ → Filled ℕ
 unfolding from_bytes_of children_of flat_map cell_bytes
-children_told cell out = on_cell (unfilled out) (λ c. let n = children_of c in fill n.outcome (cells_bytes n.cells) out) cell
+children_told cell out = on_cell (unfilled out) (λ c. fill_by cells_bytes (children_of c) out) cell
 
 -- the parent of a cell, into a buffer
 unfoldable pub parent_told : List ℕ → List ℕ → Filled ℕ
@@ -92,7 +85,7 @@ fields_told cell = on_cell no_fields fields_of cell
 -- a cell's place where it is a lattice point
 unfoldable pub lattice_coord_told : List ℕ → CoordTold
 unfolding from_bytes_of lattice_coord_of
-lattice_coord_told cell = on_cell (λ r. of_coord (coord.Refused r)) (λ c. of_coord (lattice_coord_of c)) cell
+lattice_coord_told cell = on_cell (λ r. of_coord (Err r)) (λ c. of_coord (lattice_coord_of c)) cell
 
 -- whether a cell is plain: 1 for true, 0 for false
 unfoldable pub is_plain_told : List ℕ → NumberTold
@@ -102,10 +95,10 @@ is_plain_told cell = on_cell no_number (λ c. number_told (cond (is_plain c) (po
 -- ---- two cells
 
 -- below -1, the same 0, above 1
-abbrev pub order_number : Order → ℤ
-order_number Below = negsuc 0
-order_number Same = pos 0
-order_number Above = pos 1
+abbrev pub order_number : Ordering → ℤ
+order_number Less = negsuc 0
+order_number Equal = pos 0
+order_number Greater = pos 1
 
 -- how the first cell stands to the second
 unfoldable pub compare_told : List ℕ → List ℕ → NumberTold
@@ -113,9 +106,9 @@ unfolding from_bytes_of order_of
 compare_told first second = on_cells no_number (λ a b. number_told (order_number (order_of a b))) first second
 
 -- where `cell_between` says nothing, C is told of no refusal
-abbrev pub of_between : Between → RefusalTold
-of_between between.Nothing = answered
-of_between (between.Refused r) = told_of r
+abbrev pub of_between : Result (Unit {0}) Refusal → RefusalTold
+of_between (Ok tt) = answered
+of_between (Err r) = told_of r
 
 -- what `cell_between` says of two cells
 unfoldable pub between_told : List ℕ → List ℕ → RefusalTold

@@ -1,9 +1,8 @@
 -- Cell labels for C: writing and reading are the definitions of `label`, told. Definitions only.
-use Rattle.std.specs.Prelude.{List, ℕ}
-use Rattle.refusal.specs.declared.Outcome.TheVariants as outcome
+use Rattle.refusal.specs.declared.Cell.{Cell}
+use Rattle.refusal.specs.declared.Refusal.{Refusal}
+use Rattle.std.specs.Prelude.{List, ℕ, Result, Ok, Err}
 use Rattle.refusal.specs.Refusals.{place_of}
-use Rattle.cell.specs.declared.CellAnswer.{CellAnswer}
-use Rattle.cell.specs.declared.CellAnswer.TheVariants.{Is, Refused}
 use Rattle.cell.specs.Bytes.{from_bytes_of, on_cell}
 use Rattle.label.specs.Label.{label_of, read_of}
 use Rattle.face.specs.declared.PlaceTold.{PlaceTold}
@@ -13,12 +12,12 @@ use Rattle.face.specs.Cells.{unfilled, fill_cell}
 -- a cell's label, into a buffer
 unfoldable pub label_told : List ℕ → List ℕ → Filled ℕ
 unfolding from_bytes_of label_of
-label_told cell out = on_cell (unfilled out) (λ c. fill outcome.Answered (label_of c) out) cell
+label_told cell out = on_cell (unfilled out) (λ c. fill (label_of c) out) cell
 
 -- where a label is mistyped; 0 where it is not
-abbrev pub place_in : CellAnswer → ℕ
-place_in (Refused r) = place_of r
-place_in (Is c) = 0
+abbrev pub place_in : Result Cell Refusal → ℕ
+place_in (Err r) = place_of r
+place_in (Ok c) = 0
 
 -- what C is told, and what stands in the buffer when the call returns
 pub record PlaceFilled : Type 0 where

@@ -1,8 +1,7 @@
 -- What C is told of a set and of a remove in each case that there is: the cell has not 16 bytes; the layer is not sound; the cell is new, and the layer has room or is full; the cell
 -- is kept. The numbers are document 01's: 0 answered, 10 NoRoom (its 4 is a layer's), 13 BadList, 14 BadLayer. Definitions only.
-use Rattle.std.specs.Prelude.{◌≡◌, true, false, List, ℕ, ◌+◌, ◌-◌, ◌<◌, length, Option, Some, None}
+use Rattle.std.specs.Prelude.{◌≡◌, true, false, List, ℕ, ◌+◌, ◌-◌, ◌<◌, length, Option, Some, None, Ok}
 use Rattle.refusal.specs.declared.Cell.{Cell}
-use Rattle.cell.specs.declared.CellAnswer.TheVariants.{Is}
 use Rattle.cell.specs.Bytes.{from_bytes_of, cell_width}
 use Rattle.table.specs.Records.{room_for, rows_of, held_of, is_sound}
 use Rattle.face.specs.declared.CountTold.{CountTold}
@@ -26,10 +25,10 @@ held_told None n = telling_kept 0 0 0 n
 -- the cases of a set or a remove: n of the table's records of w bytes are in use, and id are the cell's bytes. There are no others: `layer-case` of tishkolan/proofs/Theorems.antt
 pub data LayerCase (w : ℕ) (table : List ℕ) (n : ℕ) (id : List ℕ) : Type 0 where
   no_cell : (length id ≡ cell_width → ⊥) → LayerCase w table n id
-  no-layer : (c : Cell) → from_bytes_of id ≡ Is c → is_sound w table n ≡ false → LayerCase w table n id
-  new-cell : (c : Cell) → from_bytes_of id ≡ Is c → is_sound w table n ≡ true → held_of c (rows_of w table n) ≡ None → n < room_for w table → LayerCase w table n id
-  full-layer : (c : Cell) → from_bytes_of id ≡ Is c → is_sound w table n ≡ true → held_of c (rows_of w table n) ≡ None → n ≡ room_for w table → LayerCase w table n id
-  kept-cell : (c : Cell) (v : ℕ) → from_bytes_of id ≡ Is c → is_sound w table n ≡ true → held_of c (rows_of w table n) ≡ Some v → LayerCase w table n id
+  no-layer : (c : Cell) → from_bytes_of id ≡ Ok c → is_sound w table n ≡ false → LayerCase w table n id
+  new-cell : (c : Cell) → from_bytes_of id ≡ Ok c → is_sound w table n ≡ true → held_of c (rows_of w table n) ≡ None → n < room_for w table → LayerCase w table n id
+  full-layer : (c : Cell) → from_bytes_of id ≡ Ok c → is_sound w table n ≡ true → held_of c (rows_of w table n) ≡ None → n ≡ room_for w table → LayerCase w table n id
+  kept-cell : (c : Cell) (v : ℕ) → from_bytes_of id ≡ Ok c → is_sound w table n ≡ true → held_of c (rows_of w table n) ≡ Some v → LayerCase w table n id
 
 -- what C is told of a set: "A new cell in a full layer is NoRoom 4; replacing is not"
 abbrev pub set_told : {w : ℕ} {table : List ℕ} {n : ℕ} {id : List ℕ} → LayerCase w table n id → CountTold

@@ -6,7 +6,7 @@ use Rattle.refusal.specs.declared.Refusal.TheVariants.{OutOfRange}
 use Rattle.lattice.specs.declared.Parity.TheVariants.{Even, Odd}
 use Rattle.lattice.specs.Lattice.{opposite_of, neighbors_of, children_of}
 use Rattle.face.specs.declared.NumberTold.{NumberTold}
-use Rattle.face.specs.Told.{Filled, fill, number_told, no_number, parity_number}
+use Rattle.face.specs.Told.{Filled, fill_by, number_told, no_number, parity_number}
 
 -- the other parity than the one that a number stands for; a number that stands for none is out of range
 abbrev pub opposite_told : ℕ → NumberTold
@@ -23,9 +23,9 @@ triples cs = flat_map triple cs
 -- x, y, z of the 14 neighbours of a point, into a buffer
 unfoldable pub neighbors_told : Coord → List ℤ → Filled ℤ
 unfolding neighbors_of flat_map
-neighbors_told c out = let n = neighbors_of c in fill n.outcome (triples n.coords) out
+neighbors_told c out = fill_by triples (neighbors_of c) out
 
 -- x, y, z of the 8 children of a point, into a buffer
 unfoldable pub children_told : Coord → List ℤ → Filled ℤ
 unfolding children_of flat_map
-children_told c out = let n = children_of c in fill n.outcome (triples n.coords) out
+children_told c out = fill_by triples (children_of c) out

@@ -1,11 +1,9 @@
 -- The search for C: it is the definition of `astar`, told. A route has its number of cells, its cost and its expansions; a refusal has what its row carries: expansions and limit (7),
 -- start and goal (8), each cell as its two words. Definitions only.
-use Rattle.std.specs.Prelude.{List, ℕ}
+use Rattle.std.specs.Prelude.{List, ℕ, Result, Ok, Err}
 use Rattle.refusal.specs.declared.Refusal.{Refusal}
 use Rattle.refusal.specs.Refusals.{row_of}
 use Rattle.search.specs.declared.Route.{Route}
-use Rattle.search.specs.declared.SearchAnswer.{SearchAnswer}
-use Rattle.search.specs.declared.SearchAnswer.TheVariants as answer
 use Rattle.search.specs.SearchOutcome.{Searched}
 use Rattle.face.specs.declared.SearchTold.{SearchTold}
 use Rattle.face.specs.Told.{answered, told_of}
@@ -33,9 +31,9 @@ no_route r =
     }
 
 -- a route or a refusal
-abbrev pub of_search : SearchAnswer → SearchTold
-of_search (answer.Found r) = route_told r
-of_search (answer.Refused r) = no_route r
+abbrev pub of_search : Result Route Refusal → SearchTold
+of_search (Ok r) = route_told r
+of_search (Err r) = no_route r
 
 -- what C is told, and what stands in the three lent buffers when the call returns
 pub record SearchingTold : Type 0 where

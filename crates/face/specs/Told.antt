@@ -1,29 +1,16 @@
 -- What C is told of an answer or a refusal: the structs of include/tishkolan.h. A refusal has its number and what it carries, by the table of `refusal`; the answer beside it
 -- is zero where the call refuses. An answer into a lent buffer fills its front and leaves the rest; a refusal leaves all of it. Definitions only.
-use Rattle.std.specs.Prelude.{List, ◌++◌, ℕ, leb, ℤ, pos, length, drop}
+use Rattle.snap.specs.declared.BitsOfPoint.{BitsOfPoint}
+use Rattle.std.specs.Prelude.{Bool, true, false, List, ◌++◌, ℕ, leb, ℤ, pos, length, drop, Float, Result, Ok, Err}
 use Rattle.std.specs.Float.{binary64}
 use Rattle.std.specs.Float.Ieee.{to_bits}
 use Rattle.refusal.specs.declared.Coord.{Coord}
 use Rattle.refusal.specs.declared.Room.TheVariants.{Output}
 use Rattle.refusal.specs.declared.Refusal.{Refusal}
 use Rattle.refusal.specs.declared.Refusal.TheVariants.{NoRoom}
-use Rattle.refusal.specs.declared.Outcome.{Outcome}
-use Rattle.refusal.specs.declared.Outcome.TheVariants as outcome
 use Rattle.refusal.specs.Refusals.{no_coord, row_of}
-use Rattle.root.specs.declared.RootBits.{RootBits}
-use Rattle.root.specs.declared.RootBits.TheVariants as root
 use Rattle.lattice.specs.declared.Parity.{Parity}
 use Rattle.lattice.specs.declared.Parity.TheVariants.{Even, Odd}
-use Rattle.lattice.specs.declared.ParityAnswer.{ParityAnswer}
-use Rattle.lattice.specs.declared.ParityAnswer.TheVariants as parity
-use Rattle.lattice.specs.declared.CoordAnswer.{CoordAnswer}
-use Rattle.lattice.specs.declared.CoordAnswer.TheVariants as coord
-use Rattle.lattice.specs.declared.NumberAnswer.{NumberAnswer}
-use Rattle.lattice.specs.declared.NumberAnswer.TheVariants as number
-use Rattle.distance.specs.declared.DistanceAnswer.{DistanceAnswer}
-use Rattle.distance.specs.declared.DistanceAnswer.TheVariants as distance
-use Rattle.snap.specs.declared.PointBits.{PointBits}
-use Rattle.snap.specs.declared.PointBits.TheVariants as point
 use Rattle.face.specs.declared.RefusalTold.{RefusalTold}
 use Rattle.face.specs.declared.NumberTold.{NumberTold}
 use Rattle.face.specs.declared.BitsTold.{BitsTold}
@@ -56,9 +43,9 @@ abbrev pub no_number : Refusal → NumberTold
 no_number r = record { refusal = told_of r; value = pos 0 }
 
 -- a number, or the refusal
-abbrev pub of_number : NumberAnswer → NumberTold
-of_number (number.Is n) = number_told n
-of_number (number.Refused r) = no_number r
+abbrev pub of_number : Result ℤ Refusal → NumberTold
+of_number (Ok n) = number_told n
+of_number (Err r) = no_number r
 
 -- 0 even, 1 odd
 abbrev pub parity_number : Parity → ℤ
@@ -66,9 +53,19 @@ parity_number Even = pos 0
 parity_number Odd = pos 1
 
 -- a parity by its number, or the refusal
-abbrev pub of_parity : ParityAnswer → NumberTold
-of_parity (parity.Is p) = number_told (parity_number p)
-of_parity (parity.Refused r) = no_number r
+abbrev pub of_parity : Result Parity Refusal → NumberTold
+of_parity (Ok p) = number_told (parity_number p)
+of_parity (Err r) = no_number r
+
+-- 1 for yes, 0 for no
+abbrev pub truth_number : Bool → ℤ
+truth_number true = pos 1
+truth_number false = pos 0
+
+-- whether something is so, or the refusal
+abbrev pub of_truth : Result Bool Refusal → NumberTold
+of_truth (Ok yes) = number_told (truth_number yes)
+of_truth (Err r) = no_number r
 
 -- an answer that is 64 bits
 abbrev pub bits_told : ℕ → BitsTold
@@ -79,24 +76,24 @@ abbrev pub no_bits : Refusal → BitsTold
 no_bits r = record { refusal = told_of r; bits = 0 }
 
 -- a root by its bits, or the refusal
-abbrev pub of_root : RootBits → BitsTold
-of_root (root.Bits b) = bits_told b
-of_root (root.Refused r) = no_bits r
+abbrev pub of_root : Result ℕ Refusal → BitsTold
+of_root (Ok b) = bits_told b
+of_root (Err r) = no_bits r
 
 -- a distance by its bits, or the refusal
-abbrev pub of_distance : DistanceAnswer → BitsTold
-of_distance (distance.Is d) = bits_told (to_bits binary64 d)
-of_distance (distance.Refused r) = no_bits r
+abbrev pub of_distance : Result Float Refusal → BitsTold
+of_distance (Ok d) = bits_told (to_bits binary64 d)
+of_distance (Err r) = no_bits r
 
 -- a place, or the refusal with zeros for the place
-abbrev pub of_coord : CoordAnswer → CoordTold
-of_coord (coord.At c) = record { refusal = answered; x = c.x; y = c.y; z = c.z }
-of_coord (coord.Refused r) = record { refusal = told_of r; x = pos 0; y = pos 0; z = pos 0 }
+abbrev pub of_coord : Result Coord Refusal → CoordTold
+of_coord (Ok c) = record { refusal = answered; x = c.x; y = c.y; z = c.z }
+of_coord (Err r) = record { refusal = told_of r; x = pos 0; y = pos 0; z = pos 0 }
 
 -- a physical point by its bits, or the refusal with zeros for it
-abbrev pub of_point : PointBits → PointTold
-of_point (point.Is p) = record { refusal = answered; x = p.x; y = p.y; z = p.z }
-of_point (point.Refused r) = record { refusal = told_of r; x = 0; y = 0; z = 0 }
+abbrev pub of_point : Result BitsOfPoint Refusal → PointTold
+of_point (Ok p) = record { refusal = answered; x = p.x; y = p.y; z = p.z }
+of_point (Err r) = record { refusal = told_of r; x = 0; y = 0; z = 0 }
 
 -- ---- answers into a lent buffer
 
@@ -113,7 +110,11 @@ filled t l = record { told = t; out = l }
 abbrev pub fronted : {A : Type 0} → List A → List A → List A
 fronted l out = l ++ drop (length l) out
 
--- the answer l at the front, if there is room for it: NoRoom 3 otherwise
-abbrev pub fill : {A : Type 0} → Outcome → List A → List A → Filled A
-fill (outcome.Refused r) l out = filled (told_of r) out
-fill outcome.Answered l out = refuse_unless (leb (length l) (length out)) (filled (told_of (NoRoom Output)) out) (filled answered (fronted l out))
+-- l at the front, if there is room for it: NoRoom 3 otherwise
+abbrev pub fill : {A : Type 0} → List A → List A → Filled A
+fill l out = refuse_unless (leb (length l) (length out)) (filled (told_of (NoRoom Output)) out) (filled answered (fronted l out))
+
+-- what is made of an answer at the front so; a refusal leaves the buffer as it was
+abbrev pub fill_by : {A B : Type 0} → (A → List B) → Result A Refusal → List B → Filled B
+fill_by f (Err r) out = filled (told_of r) out
+fill_by f (Ok x) out = fill (f x) out

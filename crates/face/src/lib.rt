@@ -2,19 +2,16 @@
 #![tactic(auto)]
 
 ghost use Rattle.std.specs.Prelude.{◌≡◌};
-ghost use Rattle.face.specs.Told.{telling, answered, told_of, number_told, no_number, of_number, of_parity, bits_told, no_bits, of_root, of_distance};
+ghost use Rattle.face.specs.Told.{telling, answered, told_of, number_told, no_number, of_number, of_parity, of_truth, no_bits, of_root, of_distance};
 ghost use Rattle.face.specs.Told.{of_coord, of_point};
 
 pub mod layers;
 pub mod searches;
 pub mod surveys;
 
-use aggregate::Aggregation;
-use distance::DistanceAnswer;
-use lattice::{CoordAnswer, NumberAnswer, Parity, ParityAnswer};
+use lattice::Parity;
 use refusal::{Coord, Refusal};
-use root::RootBits;
-use snap::PointBits;
+use snap::BitsOfPoint;
 
 // A refusal's number, 0 for none, and what it carries: the room of NoRoom, the coordinates of InvalidParity.
 #[repr(C)]
@@ -155,14 +152,16 @@ pub fn answered() -> RefusalTold
     telling(0, 0, NOWHERE)
 }
 
-pub fn told(r: Refusal) -> RefusalTold
-    ensures { result ≡ told_of r }
-{
-    let row = refusal::row_of(r);
-    telling(row.number, row.room, row.coord)
+impl From<Refusal> for RefusalTold {
+    ghost from_gives = { λ r told. told ≡ told_of r };
+
+    fn from(r: Refusal) -> RefusalTold {
+        let row = refusal::row_of(r);
+        telling(row.number, row.room, row.coord)
+    }
 }
 
-pub fn number(n: i32) -> NumberTold
+fn number(n: i32) -> NumberTold
     ensures { result ≡ number_told n }
 {
     NumberTold {
@@ -171,114 +170,127 @@ pub fn number(n: i32) -> NumberTold
     }
 }
 
-pub fn no_number(r: Refusal) -> NumberTold
+fn no_number(r: Refusal) -> NumberTold
     ensures { result ≡ no_number r }
 {
     NumberTold {
-        refusal: told(r),
+        refusal: r.into(),
         value: 0,
     }
 }
 
-pub fn of_number(a: NumberAnswer) -> NumberTold
-    ensures { result ≡ of_number a }
-{
-    match a {
-        NumberAnswer::Is(n) => number(n),
-        NumberAnswer::Refused(r) => no_number(r),
+impl From<Result<i32, Refusal>> for NumberTold {
+    ghost from_gives = { λ a told. told ≡ of_number a };
+
+    fn from(a: Result<i32, Refusal>) -> NumberTold {
+        match a {
+            Ok(n) => number(n),
+            Err(r) => no_number(r),
+        }
     }
 }
 
 // 0 even, 1 odd.
-pub fn of_parity(a: ParityAnswer) -> NumberTold
-    ensures { result ≡ of_parity a }
-{
-    match a {
-        ParityAnswer::Is(p) => match p {
-            Parity::Even => number(0),
-            Parity::Odd => number(1),
-        },
-        ParityAnswer::Refused(r) => no_number(r),
+impl From<Result<Parity, Refusal>> for NumberTold {
+    ghost from_gives = { λ a told. told ≡ of_parity a };
+
+    fn from(a: Result<Parity, Refusal>) -> NumberTold {
+        match a {
+            Ok(Parity::Even) => number(0),
+            Ok(Parity::Odd) => number(1),
+            Err(r) => no_number(r),
+        }
     }
 }
 
-pub fn bits(b: u64) -> BitsTold
-    ensures { result ≡ bits_told b }
-{
-    BitsTold {
-        refusal: answered(),
-        bits: b,
+// 1 for yes, 0 for no.
+impl From<Result<bool, Refusal>> for NumberTold {
+    ghost from_gives = { λ a told. told ≡ of_truth a };
+
+    fn from(a: Result<bool, Refusal>) -> NumberTold {
+        match a {
+            Ok(yes) => number(i32::from(yes)),
+            Err(r) => no_number(r),
+        }
     }
 }
 
-pub fn no_bits(r: Refusal) -> BitsTold
+fn no_bits(r: Refusal) -> BitsTold
     ensures { result ≡ no_bits r }
 {
     BitsTold {
-        refusal: told(r),
+        refusal: r.into(),
         bits: 0,
     }
 }
 
-pub fn of_root(a: RootBits) -> BitsTold
-    ensures { result ≡ of_root a }
-{
-    match a {
-        RootBits::Bits(b) => bits(b),
-        RootBits::Refused(r) => no_bits(r),
+impl From<Result<u64, Refusal>> for BitsTold {
+    ghost from_gives = { λ a told. told ≡ of_root a };
+
+    fn from(a: Result<u64, Refusal>) -> BitsTold {
+        match a {
+            Ok(bits) => BitsTold {
+                refusal: answered(),
+                bits,
+            },
+            Err(r) => no_bits(r),
+        }
     }
 }
 
-pub fn of_distance(a: DistanceAnswer) -> BitsTold
-    ensures { result ≡ of_distance a }
-{
-    match a {
-        DistanceAnswer::Is(d) => bits(float::bits(d)),
-        DistanceAnswer::Refused(r) => no_bits(r),
+// A double by its bits.
+impl From<Result<f64, Refusal>> for BitsTold {
+    ghost from_gives = { λ a told. told ≡ of_distance a };
+
+    fn from(a: Result<f64, Refusal>) -> BitsTold {
+        match a {
+            Ok(x) => BitsTold {
+                refusal: answered(),
+                bits: float::bits(x),
+            },
+            Err(r) => no_bits(r),
+        }
     }
 }
 
-pub fn of_coord(a: CoordAnswer) -> CoordTold
-    ensures { result ≡ of_coord a }
-{
-    match a {
-        CoordAnswer::At(c) => CoordTold {
-            refusal: answered(),
-            x: c.x,
-            y: c.y,
-            z: c.z,
-        },
-        CoordAnswer::Refused(r) => CoordTold {
-            refusal: told(r),
-            x: 0,
-            y: 0,
-            z: 0,
-        },
+impl From<Result<Coord, Refusal>> for CoordTold {
+    ghost from_gives = { λ a told. told ≡ of_coord a };
+
+    fn from(a: Result<Coord, Refusal>) -> CoordTold {
+        match a {
+            Ok(Coord { x, y, z }) => CoordTold {
+                refusal: answered(),
+                x,
+                y,
+                z,
+            },
+            Err(r) => CoordTold {
+                refusal: r.into(),
+                x: 0,
+                y: 0,
+                z: 0,
+            },
+        }
     }
 }
 
-pub fn of_point(a: PointBits) -> PointTold
-    ensures { result ≡ of_point a }
-{
-    match a {
-        PointBits::Is(p) => PointTold {
-            refusal: answered(),
-            x: p.x,
-            y: p.y,
-            z: p.z,
-        },
-        PointBits::Refused(r) => PointTold {
-            refusal: told(r),
-            x: 0,
-            y: 0,
-            z: 0,
-        },
-    }
-}
+impl From<Result<BitsOfPoint, Refusal>> for PointTold {
+    ghost from_gives = { λ a told. told ≡ of_point a };
 
-// The aggregation that a number of C asks for.
-#[derive(Clone, Copy)]
-pub enum Asked {
-    For(Aggregation),
-    Unknown,
+    fn from(a: Result<BitsOfPoint, Refusal>) -> PointTold {
+        match a {
+            Ok(BitsOfPoint { x, y, z }) => PointTold {
+                refusal: answered(),
+                x,
+                y,
+                z,
+            },
+            Err(r) => PointTold {
+                refusal: r.into(),
+                x: 0,
+                y: 0,
+                z: 0,
+            },
+        }
+    }
 }

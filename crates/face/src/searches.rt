@@ -4,7 +4,7 @@ ghost use Rattle.face.specs.Searches.{route_told, no_route, of_search};
 
 use crate::SearchTold;
 use refusal::Refusal;
-use search::{Route, SearchAnswer};
+use search::Route;
 
 fn route_told(route: Route) -> SearchTold
     ensures { result ≡ route_told route }
@@ -30,7 +30,7 @@ fn no_route(r: Refusal) -> SearchTold
     let start = row.ends.start;
     let goal = row.ends.goal;
     SearchTold {
-        refusal: crate::told(r),
+        refusal: r.into(),
         cells: 0,
         cost: 0,
         expansions: spent.expansions,
@@ -42,11 +42,13 @@ fn no_route(r: Refusal) -> SearchTold
     }
 }
 
-pub fn of_search(a: SearchAnswer) -> SearchTold
-    ensures { result ≡ of_search a }
-{
-    match a {
-        SearchAnswer::Found(route) => route_told(route),
-        SearchAnswer::Refused(r) => no_route(r),
+impl From<Result<Route, Refusal>> for SearchTold {
+    ghost from_gives = { λ a told. told ≡ of_search a };
+
+    fn from(a: Result<Route, Refusal>) -> SearchTold {
+        match a {
+            Ok(route) => route_told(route),
+            Err(r) => no_route(r),
+        }
     }
 }

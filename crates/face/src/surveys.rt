@@ -3,20 +3,21 @@ ghost use Rattle.std.specs.Prelude.{◌≡◌};
 ghost use Rattle.face.specs.Surveys.{of_load, of_write};
 
 use crate::{LengthTold, LoadTold};
-use survey::{LoadAnswer, WriteAnswer};
+use refusal::Refusal;
+use survey::Counts;
 
-pub fn of_load(flagged: usize, valued: usize, a: LoadAnswer) -> LoadTold
+pub fn of_load(flagged: usize, valued: usize, a: Result<Counts, Refusal>) -> LoadTold
     ensures { result ≡ of_load flagged valued a }
 {
     match a {
-        LoadAnswer::Loaded(c) => LoadTold {
+        Ok(counts) => LoadTold {
             refusal: crate::answered(),
             place: 0,
-            flags: c.flags as u64,
-            values: c.values as u64,
+            flags: counts.flags as u64,
+            values: counts.values as u64,
         },
-        LoadAnswer::Refused(r) => LoadTold {
-            refusal: crate::told(r),
+        Err(r) => LoadTold {
+            refusal: r.into(),
             place: refusal::row_of(r).place,
             flags: flagged as u64,
             values: valued as u64,
@@ -24,17 +25,19 @@ pub fn of_load(flagged: usize, valued: usize, a: LoadAnswer) -> LoadTold
     }
 }
 
-pub fn of_write(a: WriteAnswer) -> LengthTold
-    ensures { result ≡ of_write a }
-{
-    match a {
-        WriteAnswer::Written(n) => LengthTold {
-            refusal: crate::answered(),
-            length: n as u64,
-        },
-        WriteAnswer::Refused(r) => LengthTold {
-            refusal: crate::told(r),
-            length: 0,
-        },
+impl From<Result<usize, Refusal>> for LengthTold {
+    ghost from_gives = { λ a told. told ≡ of_write a };
+
+    fn from(a: Result<usize, Refusal>) -> LengthTold {
+        match a {
+            Ok(n) => LengthTold {
+                refusal: crate::answered(),
+                length: n as u64,
+            },
+            Err(r) => LengthTold {
+                refusal: r.into(),
+                length: 0,
+            },
+        }
     }
 }

@@ -118,27 +118,31 @@ const NO_ENDS: Ends = Ends {
     goal: NO_CELL,
 };
 
-fn room_number(r: Room) -> u32
-    ensures { result ≡ room_of r }
-{
-    match r {
-        Room::Known => 1,
-        Room::Waiting => 2,
-        Room::Output => 3,
-        Room::Layer => 4,
+impl From<Room> for u32 {
+    ghost from_gives = { λ r n. n ≡ room_of r };
+
+    fn from(r: Room) -> u32 {
+        match r {
+            Room::Known => 1,
+            Room::Waiting => 2,
+            Room::Output => 3,
+            Room::Layer => 4,
+        }
     }
 }
 
-fn fault_number(fault: LabelFault) -> u32
-    ensures { result ≡ fault_of fault }
-{
-    match fault {
-        LabelFault::Prefix => 30,
-        LabelFault::MixedCase => 31,
-        LabelFault::Character => 32,
-        LabelFault::Length => 33,
-        LabelFault::Checksum => 34,
-        LabelFault::Padding => 35,
+impl From<LabelFault> for u32 {
+    ghost from_gives = { λ fault n. n ≡ fault_of fault };
+
+    fn from(fault: LabelFault) -> u32 {
+        match fault {
+            LabelFault::Prefix => 30,
+            LabelFault::MixedCase => 31,
+            LabelFault::Character => 32,
+            LabelFault::Length => 33,
+            LabelFault::Checksum => 34,
+            LabelFault::Padding => 35,
+        }
     }
 }
 
@@ -156,7 +160,7 @@ fn mistyped_row(m: Mistyped) -> RefusalRow
 {
     let fault = m.fault;
     RefusalRow {
-        number: fault_number(fault),
+        number: u32::from(fault),
         place: m.place,
         ..CARRYING_NOTHING
     }
@@ -207,7 +211,7 @@ pub fn row_of(r: Refusal) -> RefusalRow
         },
         Refusal::NoRoom(room) => RefusalRow {
             number: 10,
-            room: room_number(room),
+            room: u32::from(room),
             ..CARRYING_NOTHING
         },
         Refusal::BadWorkspace => RefusalRow {

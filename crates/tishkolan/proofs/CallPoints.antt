@@ -1,5 +1,6 @@
 -- Known points of what C is told, by computation: a distance, a search beyond its limit, a cell that is made and read, its label, a parent's children, and files that
 -- are refused and written back.
+use Rattle.std.specs.Prelude.{Ok}
 use mathlib.Core.Bool.{false}
 use mathlib.Core.List.{List, [], ◌∷◌, ◌++◌, flat_map}
 use mathlib.Core.Path.{refl, ◌≡◌}
@@ -14,7 +15,6 @@ use Rattle.refusal.specs.Refusals.{raw_of, no_coord}
 use Rattle.refusal.specs.declared.Coord.{Coord}
 use Rattle.words.specs.Word.{word, number, ordered, low_digits, bytes_of}
 use Rattle.lattice.specs.Lattice.{at, is_lattice_point, parity_of, child_steps, child_places, has_child_room, children_of, parent_of}
-use Rattle.lattice.specs.declared.CoordAnswer.TheVariants as coord
 use Rattle.distance.specs.Distance.{squared_distance, distance_of}
 use Rattle.distance.specs.Nearest.{NearestRoot}
 use Rattle.cell.specs.Cell.{packed, new_of}
@@ -93,7 +93,7 @@ unfolding cell_told read_of unlike_from mixed_at unknown_at value_of index_of fi
 document-label-mistyped = refl
 
 -- the parent of (3, 3, 1) is told as (1, 1, 1), and (3, 3, 1) is the sixth place that is listed for it
-pub sixth-listed : (of_coord (parent_of (at (pos 3) (pos 3) (pos 1))) ≡ of_coord (coord.At (at (pos 1) (pos 1) (pos 1))))
+pub sixth-listed : (of_coord (parent_of (at (pos 3) (pos 3) (pos 1))) ≡ of_coord (Ok (at (pos 1) (pos 1) (pos 1))))
     × (take 3 (drop 15 (children_told (at (pos 1) (pos 1) (pos 1)) (replicate 24 (pos 0))).out) ≡ pos 3 ∷ pos 3 ∷ pos 1 ∷ [])
 unfolding children_told children_of parent_of parity_of is_lattice_point has_child_room child_places child_steps flat_map
 sixth-listed = (refl, refl)

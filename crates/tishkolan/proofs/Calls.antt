@@ -1,6 +1,7 @@
 -- The calls that C makes, as theorems speak of them: a call that meets the contract which Rattle made of the source, with its arguments, what C is told, and what stands in lent memory
 -- when it returns; and names for what it is handed and what it leaves. The arguments stand in the order of the call's parameters: .0 is the first, .1 .0 the second, and so on.
 -- Definitions only.
+use Rattle.std.specs.Prelude.{Some, None}
 use mathlib.Core.Path.{◌≡◌}
 use mathlib.Core.List.{List, [], ◌∷◌}
 use Prim.Native.Nat.{ℕ, ◌*◌, ◌<◌}
@@ -16,7 +17,6 @@ use Rattle.route.specs.Accepted.{Demand3}
 use Rattle.aggregate.specs.declared.Aggregation.{Aggregation}
 use Rattle.history.specs.History.{Kind, flag_layer, value_layer, Step, set, remove, clear, load, rollup}
 use Rattle.face.specs.declared.FieldsTold.{FieldsTold}
-use Rattle.face.specs.declared.Asked.TheVariants.{For, Unknown}
 use Rattle.face.specs.Aggregates.{aggregation_of}
 use Rattle.tishkolan.proofs as here
 use Rattle.cell.specs.Bytes.{cell_width}
@@ -355,11 +355,11 @@ pub data Calls : (kind : Kind) → Layer → List (Step kind) → Layer → Type
       → Calls value_layer (layer call.exit.1.1.1.0.now call.told.values) steps last
       → Calls value_layer l (load call.arguments.0.now call.arguments.1.0.now ∷ steps) last
   rollup-values : {l last : Layer} {steps : List (Step value_layer)} (call : ValuesRollup) (how : Aggregation) → Handed l call.arguments.1.1.1.0.now call.arguments.1.1.1.1.0
-      → aggregation_of call.arguments.1.1.0 ≡ For how
+      → aggregation_of call.arguments.1.1.0 ≡ Some how
       → Calls value_layer (layer call.exit.1.1.1.0.now call.told.count) steps last
       → Calls value_layer l (rollup how call.arguments.0.now call.arguments.1.0 ∷ steps) last
   -- a number that stands for no aggregation is refused, and is no step
   rollup-unknown : {l last : Layer} {steps : List (Step value_layer)} (call : ValuesRollup) → Handed l call.arguments.1.1.1.0.now call.arguments.1.1.1.1.0
-      → aggregation_of call.arguments.1.1.0 ≡ Unknown
+      → aggregation_of call.arguments.1.1.0 ≡ None
       → Calls value_layer (layer call.exit.1.1.1.0.now call.told.count) steps last
       → Calls value_layer l steps last

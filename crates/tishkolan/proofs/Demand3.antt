@@ -1,5 +1,7 @@
 -- Demand 3 of the calls that C makes, over the contracts that Rattle made of the source: the checker's number is 0 exactly where demand 3 holds of what it is handed, the choice is 1, 2 or 0
 -- by the same words, and every route that the search returns is accepted. Of any bytes; what they say of one call, KnownPoints.antt computes.
+use Rattle.std.specs.Prelude.{Result, Ok, Err}
+use Rattle.refusal.specs.declared.Refusal.{Refusal}
 use mathlib.Core.Path.{◌≡◌, refl, sym, ap, subst, ◌∙◌}
 use mathlib.Core.Logic.{◌↔◌}
 use mathlib.Core.List.{List}
@@ -13,8 +15,6 @@ use Rattle.route.specs.Accepted.{Demand3}
 use Rattle.route.proofs.DemandLaws.{accepted-exactly}
 use Rattle.route.proofs.Choices.{sent-exactly, homing-exactly, neither-exactly}
 use Rattle.search.specs.declared.Route.{Route}
-use Rattle.search.specs.declared.SearchAnswer.{SearchAnswer}
-use Rattle.search.specs.declared.SearchAnswer.TheVariants as answer
 use Rattle.known.specs.Workspace.{in_rooms}
 use Rattle.astar.specs.Call.{search_in, asking, buffers}
 use Rattle.astar.proofs.Returned.{returned-size, returned-accepted, returned-right}
@@ -56,9 +56,9 @@ module _ (call : RouteChoice) (bytes : ClaimBytes (sent call)) where
 -- ---- what the search writes for C
 
 -- 0 is told of a route alone
-answered-found : (x : SearchAnswer) → (of_search x).refusal.number ≡ 0 → (r : Route) × (x ≡ answer.Found r)
-answered-found (answer.Found r) h = (r, refl)
-answered-found (answer.Refused r) h = absurd (refused-number r h)
+answered-found : (x : Result Route Refusal) → (of_search x).refusal.number ≡ 0 → (r : Route) × (x ≡ Ok r)
+answered-found (Ok r) h = (r, refl)
+answered-found (Err r) h = absurd (refused-number r h)
 
 -- where 0 is told, the front of the output is as many cells as are told, and they are an accepted route at the cost that is told
 told-accepted : (start goal : List ℕ) (known waiting limit rule : ℕ) (flags : List ℕ) (count : ℕ) (w h l w' h' out : List ℕ) (z : SearchTold) → Bytes start → Bytes goal

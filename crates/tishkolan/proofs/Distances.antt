@@ -1,5 +1,8 @@
 -- Demand 2 of the two distances that C calls, over the contracts that Rattle made of the source: where the refusal told is 0, the bits told are those of the f64 nearest to the true
 -- square root of the sum of the squares, each square and sum rounded in source order (`lattice-distance-nearest`, `cell-distance-nearest`).
+use Rattle.std.specs.Prelude.{Float, Result, Ok, Err}
+use Rattle.refusal.specs.declared.Refusal.{Refusal}
+use Rattle.refusal.specs.declared.Cell.{Cell}
 use mathlib.Core.Path.{◌≡◌, refl, sym, ap, subst}
 use mathlib.Core.List.{List}
 use Prim.Native.Nat.{ℕ}
@@ -7,13 +10,9 @@ use lib.Ieee.{binary64}
 use lib.Ieee.Bits.{of_bits-to_bits}
 use Rattle.refusal.specs.declared.Coord.{Coord}
 use Rattle.refusal.proofs.Numbers.{refused-number}
-use Rattle.distance.specs.declared.DistanceAnswer.{DistanceAnswer}
-use Rattle.distance.specs.declared.DistanceAnswer.TheVariants as distance
 use Rattle.distance.specs.Distance.{squared_distance, distance_of}
 use Rattle.distance.specs.Nearest.{NearestRoot}
 use Rattle.distance.proofs.Nearest.{distance-nearest}
-use Rattle.cell.specs.declared.CellAnswer.{CellAnswer}
-use Rattle.cell.specs.declared.CellAnswer.TheVariants.{Is, Refused}
 use Rattle.cell.specs.Cell.{coord_of, distance_cells}
 use Rattle.cell.specs.Bytes.{cell_at, from_bytes_of, by_cell}
 use Rattle.cell_list.proofs.ReadBack.{read_cell}
@@ -26,9 +25,9 @@ use Rattle.face.specs.Terms.{Nearest, CellsNearest}
 told-nearest : (a b : Coord) → (of_distance (distance_of a b)).refusal.number ≡ 0 → Nearest a b (of_distance (distance_of a b)).bits
 told-nearest a b = by_answer (distance_of a b) refl
   where
-    by_answer : (d : DistanceAnswer) → distance_of a b ≡ d → (of_distance d).refusal.number ≡ 0 → Nearest a b (of_distance d).bits
-    by_answer (distance.Refused r) e h = absurd (refused-number r h)
-    by_answer (distance.Is d) e h =
+    by_answer : (d : Result Float Refusal) → distance_of a b ≡ d → (of_distance d).refusal.number ≡ 0 → Nearest a b (of_distance d).bits
+    by_answer (Err r) e h = absurd (refused-number r h)
+    by_answer (Ok d) e h =
         let n = distance-nearest a b d e in subst (NearestRoot (squared_distance a b)) (sym (of_bits-to_bits binary64 d n.representable)) n
 
 -- `tishkolan_lattice_distance`: the six numbers are the two places
@@ -37,24 +36,24 @@ lattice-distance-nearest call h =
     subst (λ (x : BitsTold). x.refusal.number ≡ 0 → Nearest (first_place call) (second_place call) x.bits) (sym call.meets) (told-nearest (first_place call) (second_place call)) h
 
 -- what is told of two cells, or of the refusal of either
-abbrev said : CellAnswer → CellAnswer → BitsTold
+abbrev said : Result Cell Refusal → Result Cell Refusal → BitsTold
 said x y = by_cell no_bits (λ a. by_cell no_bits (λ b. of_distance (distance_cells a b)) y) x
 
 cells-told-nearest : (first second : List ℕ) → (distance_told first second).refusal.number ≡ 0 → CellsNearest first second (distance_told first second).bits
 unfolding distance_told
 cells-told-nearest first second = by (from_bytes_of first) (from_bytes_of second) refl refl
   where
-    by : (x y : CellAnswer) → from_bytes_of first ≡ x → from_bytes_of second ≡ y → (said x y).refusal.number ≡ 0 → CellsNearest first second (said x y).bits
-    by (Refused r) y e f h = absurd (refused-number r h)
-    by (Is a) (Refused r) e f h = absurd (refused-number r h)
-    by (Is a) (Is b) e f h =
+    by : (x y : Result Cell Refusal) → from_bytes_of first ≡ x → from_bytes_of second ≡ y → (said x y).refusal.number ≡ 0 → CellsNearest first second (said x y).bits
+    by (Err r) y e f h = absurd (refused-number r h)
+    by (Ok a) (Err r) e f h = absurd (refused-number r h)
+    by (Ok a) (Ok b) e f h =
         let one = read_cell first a e in
         let other = read_cell second b f in
         record {
           first_cell = one.0;
           second-cell = other.0;
-          nearest = subst (λ (p : Coord). Nearest p (coord_of (cell_at second 0)) (said (Is a) (Is b)).bits) (sym (ap coord_of one.1))
-              (subst (λ (q : Coord). Nearest (coord_of a) q (said (Is a) (Is b)).bits) (sym (ap coord_of other.1)) (told-nearest (coord_of a) (coord_of b) h));
+          nearest = subst (λ (p : Coord). Nearest p (coord_of (cell_at second 0)) (said (Ok a) (Ok b)).bits) (sym (ap coord_of one.1))
+              (subst (λ (q : Coord). Nearest (coord_of a) q (said (Ok a) (Ok b)).bits) (sym (ap coord_of other.1)) (told-nearest (coord_of a) (coord_of b) h));
         }
 
 -- `tishkolan_cell_distance`: of the bytes that were lent

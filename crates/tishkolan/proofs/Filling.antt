@@ -1,4 +1,6 @@
 -- A call that fills a buffer and tells 0 was answered, and its answer stands at the front; the rest is as it was. For elements of any kind.
+use Rattle.std.specs.Prelude.{Result, Ok, Err}
+use Rattle.refusal.specs.declared.Refusal.{Refusal}
 use mathlib.Core.Path.{◌≡◌, refl, sym, ap, ◌∙◌}
 use mathlib.Core.Bool.{Bool, true, false, cond}
 use mathlib.Core.List.{List}
@@ -6,16 +8,14 @@ use lib.Dec.{leb}
 use lib.ListN.{length}
 use Rattle.refusal.specs.declared.Room.TheVariants.{Output}
 use Rattle.refusal.specs.declared.Refusal.TheVariants.{NoRoom}
-use Rattle.refusal.specs.declared.Outcome.{Outcome}
-use Rattle.refusal.specs.declared.Outcome.TheVariants as outcome
 use Rattle.refusal.proofs.Numbers.{refused-number}
 use Rattle.face.specs.declared.RefusalTold.{RefusalTold}
 use Rattle.face.specs.Told.{answered, told_of, Filled, filled, fronted, fill}
 
 module _ {A : Type 0} (t : RefusalTold) (l out last : List A) (nought : t.number ≡ 0) where
-  pub front-filled : (o : Outcome) → filled t last ≡ fill o l out → (o ≡ outcome.Answered) × (last ≡ fronted l out)
-  front-filled (outcome.Refused r) post = absurd (refused-number r (sym (ap (λ (s : Filled A). s.told.number) post) ∙ nought))
-  front-filled outcome.Answered post = (refl, by-room (leb (length l) (length out)) post)
+  pub front-filled : (o : Result (Unit {0}) Refusal) → filled t last ≡ fill o l out → (o ≡ (Ok tt)) × (last ≡ fronted l out)
+  front-filled (Err r) post = absurd (refused-number r (sym (ap (λ (s : Filled A). s.told.number) post) ∙ nought))
+  front-filled (Ok tt) post = (refl, by-room (leb (length l) (length out)) post)
     where
       by-room : (b : Bool) → filled t last ≡ cond b (filled answered (fronted l out)) (filled (told_of (NoRoom Output)) out) → last ≡ fronted l out
       by-room true p = ap (λ (s : Filled A). s.out) p

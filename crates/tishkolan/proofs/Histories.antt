@@ -1,32 +1,25 @@
 -- After any chain of C calls on a layer, refused ones among them, what get tells is what the last call that touched the cell left of it: `flags-get-after-calls`, `values-get-after-calls`. Each
 -- call is one step of a history (crates/history), by its own contract.
-use Rattle.std.specs.Prelude.{Option, Some, None}
+use Rattle.refusal.specs.declared.Refusal.{Refusal}
+use Rattle.survey.specs.declared.Counts.{Counts}
+use Rattle.std.specs.Prelude.{Option, Some, None, Result, Ok, Err}
 use mathlib.Core.Path.{◌≡◌, refl, sym, ap, ap₂, ◌∙◌}
 use mathlib.Core.List.{List}
 use Prim.Native.Nat.{ℕ, ◌-◌}
 use Rattle.refusal.specs.declared.Cell.{Cell}
-use Rattle.cell.specs.declared.CellAnswer.TheVariants as cell
 use Rattle.cell.specs.Bytes.{from_bytes_of}
 use Rattle.table.specs.Records.{Layer, layer}
 use Rattle.layer.specs.Calls.{of_held, held_in}
 use Rattle.general.specs.Changed.{Changed, changed, saying}
 use Rattle.layer.specs.Changes.{set_in, remove_in, clear_in, count_by, left_by}
-use Rattle.layer.specs.declared.HeldAnswer.{HeldAnswer}
-use Rattle.layer.specs.declared.HeldAnswer.TheVariants as kept
-use Rattle.refusal.specs.declared.CountAnswer.{CountAnswer}
-use Rattle.refusal.specs.declared.CountAnswer.TheVariants as count
 use Rattle.aggregate.specs.declared.Aggregation.{Aggregation}
 use Rattle.rollup.specs.Rollup.{rollup_in}
-use Rattle.survey.specs.declared.LoadAnswer.{LoadAnswer}
-use Rattle.survey.specs.declared.LoadAnswer.TheVariants as load-answer
 use Rattle.survey.specs.Survey.{load_of}
 use Rattle.face.specs.declared.CountTold.{CountTold}
 use Rattle.face.specs.declared.KeptTold.{KeptTold}
 use Rattle.face.specs.declared.LoadTold.{LoadTold}
 use Rattle.face.specs.Layers.{of_count}
 use Rattle.face.specs.Surveys.{LoadingTold, loading_told, of_load, of_loading}
-use Rattle.face.specs.declared.Asked.{Asked}
-use Rattle.face.specs.declared.Asked.TheVariants.{For, Unknown}
 use Rattle.face.specs.Aggregates.{aggregation_of, no_rollup, rollup_by, rollup_asked}
 use Rattle.history.specs.History.{Kind, flag_layer, value_layer, width_of, Step, set, remove, clear, load, rollup, AllOfBytes, IsLayer, loaded_by, after_count, after_remove, after_load, after, after_all, last_left}
 use Rattle.history.proofs.History.{get-after-history}
@@ -36,30 +29,30 @@ use Rattle.tishkolan.proofs.LayerAnswers.{kept_by, flags-kept, value-kept, flags
 
 -- ---- the count that is told is the count that the step leaves
 
-count-told : (n : ℕ) (a : CountAnswer) → count_by a n ≡ (of_count n a).count
-count-told n (count.Cells m) = refl
-count-told n (count.Refused r) = refl
+count-told : (n : ℕ) (a : Result ℕ Refusal) → count_by a n ≡ (of_count n a).count
+count-told n (Ok m) = refl
+count-told n (Err r) = refl
 
-left-told : (n : ℕ) (h : HeldAnswer) → left_by h n ≡ (kept_by n (n - 1) h).count
-left-told n (kept.Kept k) = refl
-left-told n kept.Nothing = refl
-left-told n (kept.Refused r) = refl
+left-told : (n : ℕ) (h : Result (Option ℕ) Refusal) → left_by h n ≡ (kept_by n (n - 1) h).count
+left-told n (Ok (Some k)) = refl
+left-told n (Ok None) = refl
+left-told n (Err r) = refl
 
-flags-loaded : (n m : ℕ) (a : LoadAnswer) → loaded_by flag_layer a n ≡ (of_load n m a).flags
-flags-loaded n m (load-answer.Loaded c) = refl
-flags-loaded n m (load-answer.Refused r) = refl
+flags-loaded : (n m : ℕ) (a : Result Counts Refusal) → loaded_by flag_layer a n ≡ (of_load n m a).flags
+flags-loaded n m (Ok c) = refl
+flags-loaded n m (Err r) = refl
 
-values-loaded : (n m : ℕ) (a : LoadAnswer) → loaded_by value_layer a m ≡ (of_load n m a).values
-values-loaded n m (load-answer.Loaded c) = refl
-values-loaded n m (load-answer.Refused r) = refl
+values-loaded : (n m : ℕ) (a : Result Counts Refusal) → loaded_by value_layer a m ≡ (of_load n m a).values
+values-loaded n m (Ok c) = refl
+values-loaded n m (Err r) = refl
 
 -- ---- a call is a step
 
-counted : (n : ℕ) (z : Changed CountAnswer) (t : CountTold) (x : List ℕ) → changed t x ≡ saying (of_count n) z → after_count n z ≡ layer x t.count
+counted : (n : ℕ) (z : Changed (Result ℕ Refusal)) (t : CountTold) (x : List ℕ) → changed t x ≡ saying (of_count n) z → after_count n z ≡ layer x t.count
 counted n z t x met =
     ap₂ layer (sym (ap (λ (y : Changed CountTold). y.bytes) met)) (count-told n z.said ∙ sym (ap (λ (y : Changed CountTold). y.said.count) met))
 
-removed : (n : ℕ) (z : Changed HeldAnswer) (t : KeptTold) (x : List ℕ) → t ≡ kept_by n (n - 1) z.said → x ≡ z.bytes → after_remove n z ≡ layer x t.count
+removed : (n : ℕ) (z : Changed (Result (Option ℕ) Refusal)) (t : KeptTold) (x : List ℕ) → t ≡ kept_by n (n - 1) z.said → x ≡ z.bytes → after_remove n z ≡ layer x t.count
 removed n z t x told left = ap₂ layer (sym left) (left-told n z.said ∙ sym (ap (λ (y : KeptTold). y.count) told))
 
 module _ (kind : Kind) (l : Layer) (table : List ℕ) (n : ℕ) (handed : Handed l table n) where
@@ -91,18 +84,18 @@ module _ (l : Layer) (file table : List ℕ) (n : ℕ) (other : List ℕ) (m : �
       ∙ ap₂ layer (sym (ap (λ (z : LoadingTold). z.values) met)) (values-loaded m n g.said ∙ sym (ap (λ (z : LoadingTold). z.told.values) met))
 
 module _ (l : Layer) (fine : List ℕ) (i how : ℕ) (table : List ℕ) (n : ℕ) (handed : Handed l table n) (t : CountTold) (x : List ℕ) (met : changed t x ≡ saying (of_count n) (rollup_asked fine i how table)) where
-  rollup-step : (h : Aggregation) → aggregation_of how ≡ For h → after (rollup h fine i) l ≡ layer x t.count
+  rollup-step : (h : Aggregation) → aggregation_of how ≡ Some h → after (rollup h fine i) l ≡ layer x t.count
   unfolding after rollup_asked
   rollup-step h asked =
       ap₂ (λ (l : List ℕ) (n : ℕ). after_count n (rollup_in h fine i l)) (sym handed.0) (sym handed.1)
-      ∙ counted n (rollup_in h fine i table) t x (met ∙ ap (λ (a : Asked). saying (of_count n) (rollup_by a fine i table)) asked)
+      ∙ counted n (rollup_in h fine i table) t x (met ∙ ap (λ (a : Option Aggregation). saying (of_count n) (rollup_by a fine i table)) asked)
 
   -- a number that stands for no aggregation changes nothing
-  rollup-refused : aggregation_of how ≡ Unknown → l ≡ layer x t.count
+  rollup-refused : aggregation_of how ≡ None → l ≡ layer x t.count
   unfolding rollup_asked no_rollup
   rollup-refused asked =
       ap₂ layer (sym handed.0) (sym handed.1)
-      ∙ counted n (changed (no_rollup fine i) table) t x (met ∙ ap (λ (a : Asked). saying (of_count n) (rollup_by a fine i table)) asked)
+      ∙ counted n (changed (no_rollup fine i) table) t x (met ∙ ap (λ (a : Option Aggregation). saying (of_count n) (rollup_by a fine i table)) asked)
 
 -- ---- a chain of calls is a history
 
@@ -141,7 +134,7 @@ get-told n (Some k) = refl
 get-told n None = refl
 
 get_after : {kind : Kind} {l last : Layer} {steps : List (Step kind)} → IsLayer kind l → AllOfBytes steps → Calls kind l steps last → (table : List ℕ) (n : ℕ) → Handed last table n
-    → (id : List ℕ) (c : Cell) → from_bytes_of id ≡ cell.Is c → kept_by n n (held_in (width_of kind) table n id) ≡ held_told (last_left c steps l) last.count
+    → (id : List ℕ) (c : Cell) → from_bytes_of id ≡ Ok c → kept_by n n (held_in (width_of kind) table n id) ≡ held_told (last_left c steps l) last.count
 get_after {kind} {l} {last} {steps} start given calls table n handed id c read =
     let w = width_of kind in
     ap₂ (λ (t : List ℕ) (i : ℕ). kept_by i i (held_in w t i id)) handed.0 handed.1
@@ -150,7 +143,7 @@ get_after {kind} {l} {last} {steps} start given calls table n handed id c read =
 
 -- after any calls on a sound flag layer of bytes, what get tells of a cell is what the last call that touched the cell left of it, with the count that was told last
 pub flags-get-after-calls : {l last : Layer} {steps : List (Step flag_layer)} → IsLayer flag_layer l → AllOfBytes steps → Calls flag_layer l steps last
-    → (get : FlagsGet) → Handed last get.arguments.0.now get.arguments.1.0 → (c : Cell) → from_bytes_of get.arguments.1.1.0.now ≡ cell.Is c
+    → (get : FlagsGet) → Handed last get.arguments.0.now get.arguments.1.0 → (c : Cell) → from_bytes_of get.arguments.1.1.0.now ≡ Ok c
     → get.told ≡ held_told (last_left c steps l) last.count
 flags-get-after-calls start given calls get handed c read =
     let n = get.arguments.1.0 in
@@ -160,7 +153,7 @@ flags-get-after-calls start given calls get handed c read =
 
 -- and on a value layer
 pub values-get-after-calls : {l last : Layer} {steps : List (Step value_layer)} → IsLayer value_layer l → AllOfBytes steps → Calls value_layer l steps last
-    → (get : ValuesGet) → Handed last get.arguments.0.now get.arguments.1.0 → (c : Cell) → from_bytes_of get.arguments.1.1.0.now ≡ cell.Is c
+    → (get : ValuesGet) → Handed last get.arguments.0.now get.arguments.1.0 → (c : Cell) → from_bytes_of get.arguments.1.1.0.now ≡ Ok c
     → get.told ≡ held_told (last_left c steps l) last.count
 values-get-after-calls start given calls get handed c read =
     let n = get.arguments.1.0 in

@@ -1,5 +1,6 @@
 -- The points of the scope document's section "Known points" that are marked P, in its order, as one table: each row is an equation of two values that compute, the left one of what
 -- the contracts of the C calls cite.
+use Rattle.std.specs.Prelude.{Ok, Err}
 use mathlib.Core.Path.{◌≡◌, refl}
 use mathlib.Core.Bool.{true, false}
 use mathlib.Core.List.{List, [], ◌∷◌, ◌++◌, flat_map}
@@ -8,10 +9,7 @@ use lib.IntN.{pos, negsuc}
 use lib.Ieee.{Float, fin, of_bits, to_bits}
 use lib.ListN.{replicate}
 use Rattle.refusal.specs.declared.Refusal.TheVariants.{InvalidParity, OutOfRange}
-use Rattle.root.specs.declared.RootBits.TheVariants as root
 use Rattle.root.specs.Root.{root_bits_of}
-use Rattle.lattice.specs.declared.ParityAnswer.TheVariants as parity
-use Rattle.lattice.specs.declared.CoordAnswer.TheVariants.{At, Refused}
 use Rattle.lattice.specs.Lattice.{at, is_lattice_point, parity_of, parent_of}
 use Rattle.snap.specs.Snap.{point, snap_of}
 use Rattle.refusal.specs.Refusals.{raw_of}
@@ -82,19 +80,19 @@ pub record KnownPoints : Type 0 where
       new_told 0 3 (at (pos 1) (negsuc 0) (pos 1)) 28 165 (replicate 17 9)
       ≡ filled (carrying_nothing 0) (0x00 ∷ 0x00 ∷ 0x00 ∷ 0x01 ∷ 0xFF ∷ 0xFF ∷ 0xFF ∷ 0xFF ∷ 0x00 ∷ 0x00 ∷ 0x00 ∷ 0x01 ∷ 0x0A ∷ 0x5C ∷ 0x03 ∷ 0x00 ∷ 9 ∷ [])
   -- (0,1,0) mixed
-  pub mixed : parity_of (at (pos 0) (pos 1) (pos 0)) ≡ parity.Refused (InvalidParity (at (pos 0) (pos 1) (pos 0)))
+  pub mixed : parity_of (at (pos 0) (pos 1) (pos 0)) ≡ Err (InvalidParity (at (pos 0) (pos 1) (pos 0)))
   -- parent coordinates: (4,2,2) to (1,1,1); (-2,0,0) to (-2,0,0); (-3,1,-1) to (-2,0,0)
-  pub even-parent : parent_of (at (pos 4) (pos 2) (pos 2)) ≡ At (at (pos 1) (pos 1) (pos 1))
-  pub negative-parent : parent_of (at (negsuc 1) (pos 0) (pos 0)) ≡ At (at (negsuc 1) (pos 0) (pos 0))
-  pub odd-parent : parent_of (at (negsuc 2) (pos 1) (negsuc 0)) ≡ At (at (negsuc 1) (pos 0) (pos 0))
+  pub even-parent : parent_of (at (pos 4) (pos 2) (pos 2)) ≡ Ok (at (pos 1) (pos 1) (pos 1))
+  pub negative-parent : parent_of (at (negsuc 1) (pos 0) (pos 0)) ≡ Ok (at (negsuc 1) (pos 0) (pos 0))
+  pub odd-parent : parent_of (at (negsuc 2) (pos 1) (negsuc 0)) ≡ Ok (at (negsuc 1) (pos 0) (pos 0))
   -- snap at 0: (0.5,0.5,0.5) to (0,0,0); (-1,0,0) to (-2,0,0); (2147483646,0,0) stands, 2147483646.5 refused
-  pub tie : snap_of (point half half half) 0 ≡ At (at (pos 0) (pos 0) (pos 0))
-  pub away : snap_of (point (fin true 1 (pos 0)) nought nought) 0 ≡ At (at (negsuc 1) (pos 0) (pos 0))
+  pub tie : snap_of (point half half half) 0 ≡ Ok (at (pos 0) (pos 0) (pos 0))
+  pub away : snap_of (point (fin true 1 (pos 0)) nought nought) 0 ≡ Ok (at (negsuc 1) (pos 0) (pos 0))
   -- 2147483646 is 1073741823 times two, and 2147483646.5 is half of 4294967293
-  pub last : snap_of (point (fin false 1073741823 (pos 1)) nought nought) 0 ≡ At (at (pos 2147483646) (pos 0) (pos 0))
-  pub past : snap_of (point (fin false 4294967293 (negsuc 0)) nought nought) 0 ≡ Refused OutOfRange
+  pub last : snap_of (point (fin false 1073741823 (pos 1)) nought nought) 0 ≡ Ok (at (pos 2147483646) (pos 0) (pos 0))
+  pub past : snap_of (point (fin false 4294967293 (negsuc 0)) nought nought) 0 ≡ Err OutOfRange
   -- root of 3.0: 0x3FFBB67AE8584CAA
-  pub root-of-three : root_bits_of 0x4008_0000_0000_0000 ≡ root.Bits 0x3FFB_B67A_E858_4CAA
+  pub root-of-three : root_bits_of 0x4008_0000_0000_0000 ≡ Ok 0x3FFB_B67A_E858_4CAA
   -- (0,0,0) to (2,2,0), plain, open: the route's bytes, its cost and its expansions; limits 2 and 0; under either rule
   pub free : SearchCalls 0
   pub avoiding : SearchCalls 1

@@ -1,6 +1,7 @@
 -- When the C calls set and remove are answered and when they are refused, with what C is told, over the calls' own contracts: `flags-set-answers` and its like; a refusal changes no byte; and
 -- `flags-room-serves-again`, over a remove and the set after it.
-use Rattle.std.specs.Prelude.{Option, Some, None}
+use Rattle.refusal.specs.declared.Refusal.{Refusal}
+use Rattle.std.specs.Prelude.{Option, Some, None, Result, Ok, Err}
 use mathlib.Core.Path.{◌≡◌, refl, sym, ap, ap₂, ◌∙◌}
 use mathlib.Core.Bool.{Bool, true, false, cond}
 use mathlib.Core.List.{List}
@@ -12,16 +13,12 @@ use lib.ListN.{length}
 use Rattle.refusal.specs.declared.Cell.{Cell}
 use Rattle.refusal.specs.declared.Refusal.TheVariants.{BadList}
 use Rattle.words.specs.Word.{Bytes}
-use Rattle.cell.specs.declared.CellAnswer.TheVariants as cell
 use Rattle.cell.specs.Bytes.{cell_at, from_bytes_of}
 use Rattle.table.specs.Records.{room_for, rows_of, held_of, is_sound}
 use Rattle.table.proofs.Laws.{sound-room}
 use Rattle.layer.specs.Calls.{of_flags, of_value}
 use Rattle.general.specs.Changed.{Changed, changed, saying}
 use Rattle.layer.specs.Changes.{set_in, remove_in}
-use Rattle.layer.specs.declared.HeldAnswer.{HeldAnswer}
-use Rattle.layer.specs.declared.HeldAnswer.TheVariants as kept
-use Rattle.refusal.specs.declared.CountAnswer.{CountAnswer}
 use Rattle.layer.proofs.CallAnswers.{set-bad-list, set-bad-layer, set_new, set-no-room, set-again, remove-bad-list, remove-bad-layer, remove-kept, remove-missing, room-serves-again}
 use Rattle.face.specs.declared.CountTold.{CountTold}
 use Rattle.face.specs.declared.KeptTold.{KeptTold}
@@ -34,8 +31,8 @@ pub layer-case : (w : ℕ) (l : List ℕ) (n : ℕ) (m : List ℕ) → LayerCase
 unfolding from_bytes_of
 layer-case w l n m = by_length (eqb (length m) 16) refl (is_sound w l n) refl (held_of (cell_at m 0) (rows_of w l n)) refl (ltb n (room_for w l)) refl
   where
-    is-cell : eqb (length m) 16 ≡ true → from_bytes_of m ≡ cell.Is (cell_at m 0)
-    is-cell e = ap (λ (t : Bool). cond t (cell.Is (cell_at m 0)) (cell.Refused BadList)) e
+    is-cell : eqb (length m) 16 ≡ true → from_bytes_of m ≡ Ok (cell_at m 0)
+    is-cell e = ap (λ (t : Bool). cond t (Ok (cell_at m 0)) (Err BadList)) e
 
     by_length : (sixteen : Bool) → eqb (length m) 16 ≡ sixteen → (sound : Bool) → is_sound w l n ≡ sound → (h : Option ℕ) → held_of (cell_at m 0) (rows_of w l n) ≡ h → (room : Bool) → ltb n (room_for w l) ≡ room → LayerCase w l n m
     by_length false e sound f h g room i = no_cell (eqb-false (length m) 16 e)
@@ -54,17 +51,17 @@ module _ (w : ℕ) (l : List ℕ) (n : ℕ) (m : List ℕ) (k : ℕ) (t : CountT
   set-left = ap (λ (z : Changed CountTold). z.bytes) met
 
   set-answers : (c : LayerCase w l n m) → t ≡ set_told c
-  set-answers (no_cell other) = set-said ∙ ap (λ (z : Changed CountAnswer). of_count n z.said) (set-bad-list w l n m k other)
-  set-answers (no-layer c read broken) = set-said ∙ ap (λ (z : Changed CountAnswer). of_count n z.said) (set-bad-layer w l n m c read k broken)
+  set-answers (no_cell other) = set-said ∙ ap (λ (z : Changed (Result ℕ Refusal)). of_count n z.said) (set-bad-list w l n m k other)
+  set-answers (no-layer c read broken) = set-said ∙ ap (λ (z : Changed (Result ℕ Refusal)). of_count n z.said) (set-bad-layer w l n m c read k broken)
   set-answers (new-cell c read sound new room) = set-said ∙ ap (of_count n) (set_new w l n m c read sound k new room)
-  set-answers (full-layer c read sound new full) = set-said ∙ ap (λ (z : Changed CountAnswer). of_count n z.said) (set-no-room w l n m c read sound k new full)
+  set-answers (full-layer c read sound new full) = set-said ∙ ap (λ (z : Changed (Result ℕ Refusal)). of_count n z.said) (set-no-room w l n m c read sound k new full)
   set-answers (kept-cell c v read sound again) = set-said ∙ ap (of_count n) (set-again w l n m c read sound k v again)
 
   set-unchanged : (c : LayerCase w l n m) → ((set_told c).refusal.number ≡ 0 → ⊥) → x ≡ l
-  set-unchanged (no_cell other) refused = set-left ∙ ap (λ (z : Changed CountAnswer). z.bytes) (set-bad-list w l n m k other)
-  set-unchanged (no-layer c read broken) refused = set-left ∙ ap (λ (z : Changed CountAnswer). z.bytes) (set-bad-layer w l n m c read k broken)
+  set-unchanged (no_cell other) refused = set-left ∙ ap (λ (z : Changed (Result ℕ Refusal)). z.bytes) (set-bad-list w l n m k other)
+  set-unchanged (no-layer c read broken) refused = set-left ∙ ap (λ (z : Changed (Result ℕ Refusal)). z.bytes) (set-bad-layer w l n m c read k broken)
   set-unchanged (new-cell c read sound new room) refused = absurd (refused refl)
-  set-unchanged (full-layer c read sound new full) refused = set-left ∙ ap (λ (z : Changed CountAnswer). z.bytes) (set-no-room w l n m c read sound k new full)
+  set-unchanged (full-layer c read sound new full) refused = set-left ∙ ap (λ (z : Changed (Result ℕ Refusal)). z.bytes) (set-no-room w l n m c read sound k new full)
   set-unchanged (kept-cell c v read sound again) refused = absurd (refused refl)
 
   -- a set that is refused changes no byte
@@ -89,27 +86,27 @@ values-set-refused call refused = refused-unchanged 24 call.arguments.0.now call
 -- ---- remove
 
 -- what is kept, told in one way of flags and values
-abbrev pub kept_by : ℕ → ℕ → HeldAnswer → KeptTold
-kept_by n m (kept.Kept k) = telling_kept 0 1 k m
-kept_by n m kept.Nothing = missing_told n
-kept_by n m (kept.Refused r) = no_kept r n
+abbrev pub kept_by : ℕ → ℕ → Result (Option ℕ) Refusal → KeptTold
+kept_by n m (Ok (Some k)) = telling_kept 0 1 k m
+kept_by n m (Ok None) = missing_told n
+kept_by n m (Err r) = no_kept r n
 
-pub flags-kept : (n m : ℕ) (h : HeldAnswer) → of_flags_kept n m (of_flags h) ≡ kept_by n m h
-flags-kept n m (kept.Kept k) = refl
-flags-kept n m kept.Nothing = refl
-flags-kept n m (kept.Refused r) = refl
+pub flags-kept : (n m : ℕ) (h : Result (Option ℕ) Refusal) → of_flags_kept n m (of_flags h) ≡ kept_by n m h
+flags-kept n m (Ok (Some k)) = refl
+flags-kept n m (Ok None) = refl
+flags-kept n m (Err r) = refl
 
-pub value-kept : (n m : ℕ) (h : HeldAnswer) → of_value_kept n m (of_value h) ≡ kept_by n m h
-value-kept n m (kept.Kept k) = refl
-value-kept n m kept.Nothing = refl
-value-kept n m (kept.Refused r) = refl
+pub value-kept : (n m : ℕ) (h : Result (Option ℕ) Refusal) → of_value_kept n m (of_value h) ≡ kept_by n m h
+value-kept n m (Ok (Some k)) = refl
+value-kept n m (Ok None) = refl
+value-kept n m (Err r) = refl
 
 module _ (w : ℕ) (l : List ℕ) (n : ℕ) (m : List ℕ) (t : KeptTold) (x : List ℕ) (least : 16 ≤ w) (bytes : Bytes l) (said : t ≡ kept_by n (n - 1) (remove_in w l n m).said) (left : x ≡ (remove_in w l n m).bytes) where
-  told-as : {h : HeldAnswer} → remove_in w l n m ≡ changed h l → t ≡ kept_by n (n - 1) h
-  told-as e = said ∙ ap (λ (z : Changed HeldAnswer). kept_by n (n - 1) z.said) e
+  told-as : {h : Result (Option ℕ) Refusal} → remove_in w l n m ≡ changed h l → t ≡ kept_by n (n - 1) h
+  told-as e = said ∙ ap (λ (z : Changed (Result (Option ℕ) Refusal)). kept_by n (n - 1) z.said) e
 
-  left_as : {h : HeldAnswer} → remove_in w l n m ≡ changed h l → x ≡ l
-  left_as e = left ∙ ap (λ (z : Changed HeldAnswer). z.bytes) e
+  left_as : {h : Result (Option ℕ) Refusal} → remove_in w l n m ≡ changed h l → x ≡ l
+  left_as e = left ∙ ap (λ (z : Changed (Result (Option ℕ) Refusal)). z.bytes) e
 
   remove-answers : (c : LayerCase w l n m) → t ≡ remove_told c
   remove-answers (no_cell other) = told-as (remove-bad-list w l n m other)
@@ -155,7 +152,7 @@ values-remove-missing call bytes missing = missing-unchanged 24 call.arguments.0
 
 serves-again : (w : ℕ) (l : List ℕ) (n : ℕ) (m : List ℕ) (r : KeptTold) (x : List ℕ) (q : List ℕ) (k : ℕ) (t : CountTold) (y : List ℕ) (c : Cell) (v : ℕ) (d : Cell) → 16 ≤ w → Bytes l
     → r ≡ kept_by n (n - 1) (remove_in w l n m).said → x ≡ (remove_in w l n m).bytes → changed t y ≡ saying (of_count r.count) (set_in w x r.count q k)
-    → from_bytes_of m ≡ cell.Is c → is_sound w l n ≡ true → held_of c (rows_of w l n) ≡ Some v → from_bytes_of q ≡ cell.Is d → held_of d (rows_of w x r.count) ≡ None → t ≡ telling_count 0 0 n
+    → from_bytes_of m ≡ Ok c → is_sound w l n ≡ true → held_of c (rows_of w l n) ≡ Some v → from_bytes_of q ≡ Ok d → held_of d (rows_of w x r.count) ≡ None → t ≡ telling_count 0 0 n
 serves-again w l n m r x q k t y c v d least bytes said left met read sound e other new =
     let less : r.count ≡ n - 1 = ap (λ (z : KeptTold). z.count) (said ∙ ap (kept_by n (n - 1)) (remove-kept w l n m c read sound v e)) in
     ap (λ (z : Changed CountTold). z.said) met
@@ -164,9 +161,9 @@ serves-again w l n m r x q k t y c v d least bytes said left met read sound e ot
 -- a remove of a cell that a flag layer kept, and then a set of a cell that it does not keep, in the table and with the count that the remove left: C is told as many cells as before, and no refusal
 pub flags-room-serves-again : (removing : FlagsRemove) (setting : FlagsSet) (c : Cell) (v : ℕ) (d : Cell)
     → let table = removing.arguments.0.now in let n = removing.arguments.1.0 in let left = removing.exit.0.now in
-    Bytes table → from_bytes_of removing.arguments.1.1.0.now ≡ cell.Is c → is_sound 20 table n ≡ true → held_of c (rows_of 20 table n) ≡ Some v
+    Bytes table → from_bytes_of removing.arguments.1.1.0.now ≡ Ok c → is_sound 20 table n ≡ true → held_of c (rows_of 20 table n) ≡ Some v
     → setting.arguments.0.now ≡ left → setting.arguments.1.0 ≡ removing.told.count
-    → from_bytes_of setting.arguments.1.1.0.now ≡ cell.Is d → held_of d (rows_of 20 left removing.told.count) ≡ None → setting.told ≡ telling_count 0 0 n
+    → from_bytes_of setting.arguments.1.1.0.now ≡ Ok d → held_of d (rows_of 20 left removing.told.count) ≡ None → setting.told ≡ telling_count 0 0 n
 flags-room-serves-again removing setting c v d bytes read sound e table count other new =
     serves-again 20 removing.arguments.0.now removing.arguments.1.0 removing.arguments.1.1.0.now removing.told removing.exit.0.now setting.arguments.1.1.0.now setting.arguments.1.1.1.0 setting.told setting.exit.0.now c v d
     (omega arith) bytes (flags-removed removing) (ap (λ (z : Changed KeptTold). z.bytes) removing.meets)
@@ -176,9 +173,9 @@ flags-room-serves-again removing setting c v d bytes read sound e table count ot
 -- the same of a value layer
 pub values-room-serves-again : (removing : ValuesRemove) (setting : ValuesSet) (c : Cell) (v : ℕ) (d : Cell)
     → let table = removing.arguments.0.now in let n = removing.arguments.1.0 in let left = removing.exit.0.now in
-    Bytes table → from_bytes_of removing.arguments.1.1.0.now ≡ cell.Is c → is_sound 24 table n ≡ true → held_of c (rows_of 24 table n) ≡ Some v
+    Bytes table → from_bytes_of removing.arguments.1.1.0.now ≡ Ok c → is_sound 24 table n ≡ true → held_of c (rows_of 24 table n) ≡ Some v
     → setting.arguments.0.now ≡ left → setting.arguments.1.0 ≡ removing.told.count
-    → from_bytes_of setting.arguments.1.1.0.now ≡ cell.Is d → held_of d (rows_of 24 left removing.told.count) ≡ None → setting.told ≡ telling_count 0 0 n
+    → from_bytes_of setting.arguments.1.1.0.now ≡ Ok d → held_of d (rows_of 24 left removing.told.count) ≡ None → setting.told ≡ telling_count 0 0 n
 values-room-serves-again removing setting c v d bytes read sound e table count other new =
     serves-again 24 removing.arguments.0.now removing.arguments.1.0 removing.arguments.1.1.0.now removing.told removing.exit.0.now setting.arguments.1.1.0.now setting.arguments.1.1.1.0 setting.told setting.exit.0.now c v d
     (omega arith) bytes (values-removed removing) (ap (λ (z : Changed KeptTold). z.bytes) removing.meets)

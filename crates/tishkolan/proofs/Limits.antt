@@ -1,4 +1,6 @@
 -- What C is told of a search beyond its limit, over the calls' own contracts: where the number told is 7, the limit told is the one of the call, and the expansions told are one more.
+use Rattle.std.specs.Prelude.{Result, Ok, Err}
+use Rattle.search.specs.declared.Route.{Route}
 use mathlib.Core.Path.{◌≡◌, sym, ap, ◌∙◌}
 use mathlib.Core.List.{List}
 use Prim.Native.Nat.{ℕ}
@@ -8,8 +10,6 @@ use Rattle.refusal.specs.declared.Refusal.{Refusal}
 use Rattle.refusal.specs.declared.Refusal.TheVariants.{SearchLimitExceeded}
 use Rattle.refusal.proofs.Numbers.{numbered-seven}
 use Rattle.known.specs.Workspace.{in_rooms}
-use Rattle.search.specs.declared.SearchAnswer.{SearchAnswer}
-use Rattle.search.specs.declared.SearchAnswer.TheVariants as answer
 use Rattle.search.specs.Terms.{OneBeyond}
 use Rattle.face.specs.declared.SearchTold.{SearchTold}
 use Rattle.face.specs.Searches.{no_route, of_search, of_searched, search_told, SearchingTold}
@@ -20,25 +20,25 @@ use Rattle.face.specs.Terms.{LimitTold}
 use Rattle.tishkolan.proofs.Calls.{Astar, AstarWithLimit, limit_given}
 
 -- a search that tells the number 7 was refused beyond its limit, and tells what that refusal carries
-record Exceeded (a : SearchAnswer) (t : SearchTold) : Type 0 where
+record Exceeded (a : Result Route Refusal) (t : SearchTold) : Type 0 where
   spent : Spent
-  refused : a ≡ answer.Refused (SearchLimitExceeded spent)
+  refused : a ≡ Err (SearchLimitExceeded spent)
   expansions : t.expansions ≡ spent.expansions
   limit : t.limit ≡ spent.limit
 
-seven : (a : SearchAnswer) → (of_search a).refusal.number ≡ 7 → Exceeded a (of_search a)
-seven (answer.Found r) e = absurd (omega arith)
-seven (answer.Refused r) e =
+seven : (a : Result Route Refusal) → (of_search a).refusal.number ≡ 7 → Exceeded a (of_search a)
+seven (Ok r) e = absurd (omega arith)
+seven (Err r) e =
     let told = numbered-seven r e in
     record {
       spent = told.0;
-      refused = ap answer.Refused told.1;
+      refused = ap Err told.1;
       expansions = ap (λ (why : Refusal). (no_route why).expansions) told.1;
       limit = ap (λ (why : Refusal). (no_route why).limit) told.1;
     }
 
 -- of what is told of an answer
-limit-told : (limit : ℕ) (a : SearchAnswer) (t : SearchTold) → t ≡ of_search a → ((x : Spent) → a ≡ answer.Refused (SearchLimitExceeded x) → OneBeyond limit x) → t.refusal.number ≡ 7 → LimitTold limit t
+limit-told : (limit : ℕ) (a : Result Route Refusal) (t : SearchTold) → t ≡ of_search a → ((x : Spent) → a ≡ Err (SearchLimitExceeded x) → OneBeyond limit x) → t.refusal.number ≡ 7 → LimitTold limit t
 limit-told limit a t told beyond e =
     let h = seven a (sym (ap (λ (s : SearchTold). s.refusal.number) told) ∙ e) in
     let b = beyond h.spent h.refused in

@@ -1,5 +1,7 @@
 -- Demand 2: "Packing and unpacking agree both ways on cells of one parity with reserved bits clear", over the contracts of `tishkolan_cell_new` and `tishkolan_cell_fields`: the fields that are told of
 -- a cell that was made are those it was made of (`fields-after-new`), and the cell that is made of the fields that were told is the same 16 bytes (`new-after-fields`).
+use Rattle.std.specs.Prelude.{Result, Ok, Err}
+use Rattle.refusal.specs.declared.Refusal.{Refusal}
 use mathlib.Core.Path.{◌≡◌, refl, sym, ap, subst, ◌∙◌}
 use mathlib.Core.Bool.{Bool, true, cond}
 use mathlib.Core.List.{List, ◌++◌}
@@ -13,14 +15,11 @@ use Rattle.refusal.specs.declared.Cell.{Cell}
 use Rattle.refusal.specs.declared.Coord.{Coord}
 use Rattle.refusal.specs.declared.Room.TheVariants.{Output}
 use Rattle.refusal.specs.declared.Refusal.TheVariants.{NoRoom}
-use Rattle.refusal.specs.declared.Outcome.TheVariants as outcome
 use Rattle.refusal.proofs.Numbers.{refused-number}
 use Rattle.words.specs.Word.{Bytes}
 use Rattle.lattice.specs.declared.Parity.TheVariants.{Even, Odd}
 use Rattle.lattice.specs.Lattice.{at, is_odd, is_lattice_point}
 use Rattle.lattice.proofs.Laws.{point-parity}
-use Rattle.cell.specs.declared.CellAnswer.{CellAnswer}
-use Rattle.cell.specs.declared.CellAnswer.TheVariants.{Is, Refused}
 use Rattle.cell.specs.Cell.{coord_of, new_of}
 use Rattle.cell.specs.Bytes.{cell_bytes, from_bytes_of, by_cell}
 use Rattle.cell.proofs.BytesLaws.{bytes-read-back, read-bytes-back, read-words}
@@ -37,21 +36,21 @@ use Rattle.face.specs.Terms.{fields_given}
 use Rattle.tishkolan.proofs.Calls.{CellNew, new_frame, new_resolution, new_place, new_exponent, new_flags, new_lent, new_left, CellFields, fields_bytes, Typed, Repacks}
 
 -- a call that is told 0 found room for the 16 bytes of a cell, and they stand at the front
-pub record Made (a : CellAnswer) (t : RefusalTold) (out : List ℕ) : Type 0 where
+pub record Made (a : Result Cell Refusal) (t : RefusalTold) (out : List ℕ) : Type 0 where
   pub cell : Cell
-  pub is-cell : a ≡ Is cell
+  pub is-cell : a ≡ Ok cell
   pub front : take 16 out ≡ cell_bytes cell
 
 front_bytes : (c : Cell) (l : List ℕ) → take 16 (cell_bytes c ++ l) ≡ cell_bytes c
 front_bytes c l = take_at (cell_bytes c) l 16 (length-cell_bytes c)
 
-pub made : (a : CellAnswer) (t : RefusalTold) (l out : List ℕ) → filled t out ≡ fill_cell l a → t.number ≡ 0 → Made a t out
-made (Refused r) t l out p nought = absurd (refused-number r (sym (ap (λ (z : Filled ℕ). z.told.number) p) ∙ nought))
-made (Is c) t l out p nought =
+pub made : (a : Result Cell Refusal) (t : RefusalTold) (l out : List ℕ) → filled t out ≡ fill_cell l a → t.number ≡ 0 → Made a t out
+made (Err r) t l out p nought = absurd (refused-number r (sym (ap (λ (z : Filled ℕ). z.told.number) p) ∙ nought))
+made (Ok c) t l out p nought =
     record {
       cell = c;
       is-cell = refl;
-      front = ap (take 16) (front-filled t (cell_bytes c) l out nought outcome.Answered p).1 ∙ front_bytes c (drop (length (cell_bytes c)) l);
+      front = ap (take 16) (front-filled t (cell_bytes c) l out nought (Ok tt) p).1 ∙ front_bytes c (drop (length (cell_bytes c)) l);
     }
 
 read-fields : (frame resolution : ℕ) (c : Coord) (exponent flags : ℕ) (k : Cell) → ReadsBack frame resolution c exponent flags k → fields_of k ≡ fields_given frame resolution c (exponent % 16) flags
@@ -82,15 +81,15 @@ fields-after-new call reading typed nought same =
     ∙ read-fields (new_frame call) (new_resolution call) (new_place call) (new_exponent call) (new_flags call) m.cell back
 
 -- fields that are told with 0 are those of the 16 bytes
-told-of : (l : List ℕ) (f : FieldsTold) → f ≡ fields_told l → f.refusal.number ≡ 0 → (c : Cell) × (from_bytes_of l ≡ Is c) × (f ≡ fields_of c)
+told-of : (l : List ℕ) (f : FieldsTold) → f ≡ fields_told l → f.refusal.number ≡ 0 → (c : Cell) × (from_bytes_of l ≡ Ok c) × (f ≡ fields_of c)
 unfolding fields_told
 told-of l f p nought = by-cell (from_bytes_of l) refl p
   where
-    by-cell : (a : CellAnswer) → from_bytes_of l ≡ a → f ≡ by_cell no_fields fields_of a → (c : Cell) × (from_bytes_of l ≡ Is c) × (f ≡ fields_of c)
-    by-cell (Refused r) e q = absurd (refused-number r (sym (ap (λ (z : FieldsTold). z.refusal.number) q) ∙ nought))
-    by-cell (Is c) e q = (c, e, q)
+    by-cell : (a : Result Cell Refusal) → from_bytes_of l ≡ a → f ≡ by_cell no_fields fields_of a → (c : Cell) × (from_bytes_of l ≡ Ok c) × (f ≡ fields_of c)
+    by-cell (Err r) e q = absurd (refused-number r (sym (ap (λ (z : FieldsTold). z.refusal.number) q) ∙ nought))
+    by-cell (Ok c) e q = (c, e, q)
 
-pub filled-front : (t : RefusalTold) (l out : List ℕ) (c : Cell) → filled t out ≡ fill_cell l (Is c) → 16 ≤ length l → (t ≡ answered) × (take 16 out ≡ cell_bytes c)
+pub filled-front : (t : RefusalTold) (l out : List ℕ) (c : Cell) → filled t out ≡ fill_cell l (Ok c) → 16 ≤ length l → (t ≡ answered) × (take 16 out ≡ cell_bytes c)
 filled-front t l out c p room =
     let roomy : leb (length (cell_bytes c)) (length l) ≡ true = le-leb (length (cell_bytes c)) (length l) (omega (arith, length-cell_bytes c)) in
     let whole : filled t out ≡ filled answered (fronted (cell_bytes c) l) = p ∙ ap (λ (b : Bool). cond b (filled answered (fronted (cell_bytes c) l)) (filled (told_of (NoRoom Output)) l)) roomy in
@@ -108,7 +107,7 @@ new-after-fields reading call bytes nought clear point again room =
     let told = f.2 in
     let one = read_cell l c f.1 in
     let where-it-is : new_place call ≡ coord_of c = again.same_place ∙ ap (λ (t : FieldsTold). at t.x t.y t.z) told in
-    let packs : new_of (new_frame call) (new_resolution call) (new_place call) (new_exponent call) (new_flags call) ≡ Is c =
+    let packs : new_of (new_frame call) (new_resolution call) (new_place call) (new_exponent call) (new_flags call) ≡ Ok c =
     (λ i. new_of ((again.same-frame ∙ ap (λ (t : FieldsTold). t.frame) told) i) ((again.same-resolution ∙ ap (λ (t : FieldsTold). t.resolution) told) i) (where-it-is i)
     ((again.same-exponent ∙ ap (λ (t : FieldsTold). t.exponent) told) i) ((again.same_flags ∙ ap (λ (t : FieldsTold). t.flags) told) i))
     ∙ new-fields c (cond (is_odd (coord_of c).x) Odd Even) (read-words l c bytes f.1) (sym (ap (λ (t : FieldsTold). t.reserved) told) ∙ clear)

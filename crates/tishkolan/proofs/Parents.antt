@@ -1,5 +1,7 @@
 -- Where a call of C tells a point's parent and another lists the children of that parent, the point is among the eight places that are listed. Over their own contracts, by those of the
 -- lattice's calls.
+use Rattle.std.specs.Prelude.{Result, Ok, Err}
+use Rattle.refusal.specs.declared.Refusal.{Refusal}
 use mathlib.Core.Path.{◌≡◌, refl, sym, ap, subst, ◌∙◌}
 use mathlib.Core.List.{List, [], ◌∷◌, ◌++◌, flat_map, Memᴰ}
 use Prim.Native.Nat.{ℕ, suc, ◌*◌, ◌<◌}
@@ -8,9 +10,6 @@ use lib.IntN.{ℤ}
 use lib.ListN.{length, take, drop}
 use Rattle.refusal.specs.declared.Coord.{Coord}
 use Rattle.refusal.proofs.Numbers.{refused-number}
-use Rattle.refusal.specs.declared.Outcome.TheVariants as outcome
-use Rattle.lattice.specs.declared.CoordAnswer.{CoordAnswer}
-use Rattle.lattice.specs.declared.CoordAnswer.TheVariants as coord
 use Rattle.lattice.specs.Lattice.{at, children_of, parent_of}
 use Rattle.lattice.proofs.OneParent.{told-among-children}
 use Rattle.face.specs.declared.RefusalTold.{RefusalTold}
@@ -22,9 +21,9 @@ use Rattle.tishkolan.proofs.Filling.{front-filled}
 use Rattle.tishkolan.proofs.Calls.{LatticeParent, child_place, LatticeChildren, parent_place, children_left}
 
 -- what is told as an answer is the place
-place-told : (a : CoordAnswer) (t : CoordTold) → t ≡ of_coord a → t.refusal.number ≡ 0 → a ≡ coord.At (at t.x t.y t.z)
-place-told (coord.Refused r) t told e = absurd (refused-number r (sym (ap (λ (s : CoordTold). s.refusal.number) told) ∙ e))
-place-told (coord.At c) t told e = λ i. coord.At (at (sym told i).x (sym told i).y (sym told i).z)
+place-told : (a : Result Coord Refusal) (t : CoordTold) → t ≡ of_coord a → t.refusal.number ≡ 0 → a ≡ Ok (at t.x t.y t.z)
+place-told (Err r) t told e = absurd (refused-number r (sym (ap (λ (s : CoordTold). s.refusal.number) told) ∙ e))
+place-told (Ok c) t told e = λ i. Ok (at (sym told i).x (sym told i).y (sym told i).z)
 
 -- a place of a list stands in its numbers
 triple-at : {c : Coord} (l : List Coord) (rest : List ℤ) → Memᴰ c l → (k : ℕ) × (k < length l) × (take 3 (drop (3 * k) (triples l ++ rest)) ≡ triple c)
@@ -38,10 +37,10 @@ triple-at {c} (d ∷ l) rest (Memᴰ.tail m) =
     (suc k, omega (arith, h.1), rw further h.2)
 
 -- over the lattice's own calls
-among : (c p : Coord) → parent_of c ≡ coord.At p → (children_of p).outcome ≡ outcome.Answered → Memᴰ c (children_of p).coords
+among : (c p : Coord) → parent_of c ≡ Ok p → (children_of p).outcome ≡ (Ok tt) → Memᴰ c (children_of p).coords
 among c p e answers = told-among-children tt (c, tt) (parent_of c) (c, tt) (p, tt) (children_of p) (p, tt) refl refl e answers
 
-listed : (c p : Coord) (out last : List ℤ) (t : RefusalTold) → parent_of c ≡ coord.At p → filled t last ≡ children_told p out → t.number ≡ 0 → (k : ℕ) × (k < 8) × (take 3 (drop (3 * k) last) ≡ triple c)
+listed : (c p : Coord) (out last : List ℤ) (t : RefusalTold) → parent_of c ≡ Ok p → filled t last ≡ children_told p out → t.number ≡ 0 → (k : ℕ) × (k < 8) × (take 3 (drop (3 * k) last) ≡ triple c)
 unfolding children_told
 listed c p out last t e post told =
     let places = (children_of p).coords in

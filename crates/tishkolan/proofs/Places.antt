@@ -1,4 +1,7 @@
 -- Places as the code reads and stores them.
+use Rattle.std.specs.Prelude.{Result, Ok, Err}
+use Rattle.lattice.specs.declared.Parity.{Parity}
+use Rattle.refusal.specs.declared.Refusal.{Refusal}
 use mathlib.Core.Path.{◌≡◌, refl}
 use mathlib.Core.Bool.{Bool, true, false}
 use mathlib.Core.List.{List}
@@ -11,8 +14,6 @@ use mir.Syntax.{w32}
 use mir.Val.{SFits, of_z, to_z}
 use mir.Facts.{to_z-of_z}
 use Rattle.refusal.specs.declared.Coord.{Coord}
-use Rattle.lattice.specs.declared.ParityAnswer.{ParityAnswer}
-use Rattle.lattice.specs.declared.ParityAnswer.TheVariants.{Is, Refused}
 use Rattle.lattice.specs.Lattice.{at, parity_of, child_steps, child_places, has_child_room, children_of}
 use Rattle.lattice.proofs.Split.{children_in, children_by}
 use Rattle.face.specs.Points.{triple}
@@ -35,9 +36,9 @@ unfolding child_places child_steps
 children-in true c = refl
 children-in false c = refl
 
-children-by : (a : ParityAnswer) (c : Coord) → length (children_by a c).coords ≡ 8
-children-by (Refused r) c = refl
-children-by (Is p) c = children-in (has_child_room c) c
+children-by : (a : Result Parity Refusal) (c : Coord) → length (children_by a c).coords ≡ 8
+children-by (Err r) c = refl
+children-by (Ok p) c = children-in (has_child_room c) c
 
 pub children-long : (c : Coord) → length (children_of c).coords ≡ 8
 unfolding children_of

@@ -1,5 +1,7 @@
 -- What the two calls on survey files say of a file and of each other, over their own contracts: 12 is told exactly of bytes that are no file, 0 only of a file with the counts that are
 -- told, and what was loaded is written back as the very file.
+use Rattle.std.specs.Prelude.{Result, Ok, Err}
+use Rattle.survey.specs.declared.Counts.{Counts}
 use mathlib.Core.Path.{◌≡◌, refl, sym, ap, ap₂, ◌∙◌}
 use mathlib.Core.List.{List, ◌++◌}
 use mathlib.Core.Logic.{◌↔◌}
@@ -14,14 +16,9 @@ use Rattle.refusal.proofs.Numbers.{refused-number}
 use Rattle.words.specs.Word.{Bytes}
 use Rattle.table.specs.Records.{rows_of, flag_width, value_width}
 use Rattle.file.specs.declared.Sections.{Sections}
-use Rattle.file.specs.declared.FileAnswer.{FileAnswer}
-use Rattle.file.specs.declared.FileAnswer.TheVariants as file
 use Rattle.file.specs.File.{sections_of, accepted_of, file_of}
 use Rattle.file.specs.Terms.{IsFile}
 use Rattle.file.proofs.AcceptedLaws.{accepted-is-file, refused-is-no-file}
-use Rattle.survey.specs.declared.LoadAnswer.{LoadAnswer}
-use Rattle.survey.specs.declared.LoadAnswer.TheVariants as load
-use Rattle.survey.specs.declared.WriteAnswer.TheVariants.{Written}
 use Rattle.survey.specs.Survey.{counting, Loading, load_of, write_of}
 use Rattle.survey.proofs.RoundTrips as round
 use Rattle.face.specs.declared.LengthTold.{LengthTold}
@@ -32,14 +29,14 @@ use Rattle.tishkolan.proofs.Calls.{SurveyLoad, file_handed, flags_handed, values
 -- ---- what a load tells
 
 -- 0 is told of counts alone, and they are those
-answered-loaded : (n m : ℕ) (a : LoadAnswer) → (of_load n m a).refusal.number ≡ 0 → a ≡ load.Loaded (counting (of_load n m a).flags (of_load n m a).values)
-answered-loaded n m (load.Loaded c) h = refl
-answered-loaded n m (load.Refused r) h = absurd (refused-number r h)
+answered-loaded : (n m : ℕ) (a : Result Counts Refusal) → (of_load n m a).refusal.number ≡ 0 → a ≡ Ok (counting (of_load n m a).flags (of_load n m a).values)
+answered-loaded n m (Ok c) h = refl
+answered-loaded n m (Err r) h = absurd (refused-number r h)
 
 -- any other number of a refusal alone
-otherwise-refused : (n m : ℕ) (a : LoadAnswer) → ((of_load n m a).refusal.number ≡ 0 → ⊥) → (why : Refusal) × (a ≡ load.Refused why)
-otherwise-refused n m (load.Loaded c) h = absurd (h refl)
-otherwise-refused n m (load.Refused r) h = (r, refl)
+otherwise-refused : (n m : ℕ) (a : Result Counts Refusal) → ((of_load n m a).refusal.number ≡ 0 → ⊥) → (why : Refusal) × (a ≡ Err why)
+otherwise-refused n m (Ok c) h = absurd (h refl)
+otherwise-refused n m (Err r) h = (r, refl)
 
 module _ (call : SurveyLoad) where
   -- what the definition says of it
@@ -56,10 +53,10 @@ module _ (call : SurveyLoad) where
   number-told = ap (λ (z : LoadingTold). z.told.refusal.number) call.meets
 
   -- where it answers
-  is-loaded : call.told.refusal.number ≡ 0 → said.said ≡ load.Loaded (counting call.told.flags call.told.values)
+  is-loaded : call.told.refusal.number ≡ 0 → said.said ≡ Ok (counting call.told.flags call.told.values)
   is-loaded nought =
       answered-loaded told-flags told-values said.said (sym number-told ∙ nought)
-      ∙ ap₂ (λ (i j : ℕ). load.Loaded (counting i j)) (sym (ap (λ (z : LoadingTold). z.told.flags) call.meets)) (sym (ap (λ (z : LoadingTold). z.told.values) call.meets))
+      ∙ ap₂ (λ (i j : ℕ). Ok (counting i j)) (sym (ap (λ (z : LoadingTold). z.told.flags) call.meets)) (sym (ap (λ (z : LoadingTold). z.told.values) call.meets))
 
   flags-left : flags_loaded call ≡ said.flags
   flags-left = ap (λ (z : LoadingTold). z.flags) call.meets
@@ -87,16 +84,16 @@ module _ (call : SurveyLoad) where
   load-twelve-exactly bytes = (forward (accepted_of (file_handed call)) refl, backward)
     where
       -- such an answer is no file's
-      never : (at : Sections) → accepted_of (file_handed call) ≡ file.Has at → (a : LoadAnswer) → said.said ≡ a → (of_load told-flags told-values a).refusal.number ≡ 12 → ⊥
-      never at e (load.Loaded c) s h = omega arith
-      never at e (load.Refused why) s h =
+      never : (at : Sections) → accepted_of (file_handed call) ≡ Ok at → (a : Result Counts Refusal) → said.said ≡ a → (of_load told-flags told-values a).refusal.number ≡ 12 → ⊥
+      never at e (Ok c) s h = omega arith
+      never at e (Err why) s h =
           let room = round.room-alone (file_handed call) (flags_handed call) (values_handed call) at why e s in
           let ten : number_of why ≡ 10 = ap number_of room in
           omega (arith, ten, h)
 
-      forward : (a : FileAnswer) → accepted_of (file_handed call) ≡ a → call.told.refusal.number ≡ 12 → (at : Sections) → IsFile (file_handed call) at → ⊥
-      forward (file.Has at) e twelve to is = never at e said.said refl (sym number-told ∙ twelve)
-      forward (file.Refused why) e twelve to is =
+      forward : (a : Result Sections Refusal) → accepted_of (file_handed call) ≡ a → call.told.refusal.number ≡ 12 → (at : Sections) → IsFile (file_handed call) at → ⊥
+      forward (Ok at) e twelve to is = never at e said.said refl (sym number-told ∙ twelve)
+      forward (Err why) e twelve to is =
           let has = sym e ∙ (accepted-is-file (file_handed call) to bytes).1 is in
           let z : ◌≡◌ {A = ℕ} 0 1 = cc in
           omega arith
@@ -104,7 +101,7 @@ module _ (call : SurveyLoad) where
       backward : ((at : Sections) → IsFile (file_handed call) at → ⊥) → call.told.refusal.number ≡ 12
       backward none =
           let place = (refused-is-no-file (file_handed call) bytes).1 none in
-          number-told ∙ ap (λ (a : LoadAnswer). (of_load told-flags told-values a).refusal.number) (round.bad-file-told (file_handed call) (flags_handed call) (values_handed call) (BadFile place.0) place.1)
+          number-told ∙ ap (λ (a : Result Counts Refusal). (of_load told-flags told-values a).refusal.number) (round.bad-file-told (file_handed call) (flags_handed call) (values_handed call) (BadFile place.0) place.1)
 
 -- ---- equal contents, equal files
 
@@ -127,5 +124,5 @@ loaded-written-back load write bytes nought handed room =
     let same : write_of write.arguments.0.now write.arguments.1.0 write.arguments.1.1.0.now write.arguments.1.1.1.0 out ≡ write_of (said load).flags c.flags (said load).values c.values out =
     λ i. write_of ((handed.flags ∙ flags-left load) i) (handed.flag-count i) ((handed.values ∙ values-left load) i) (handed.value-count i) out in
     let back = round.load-write l (flags_handed load) (values_handed load) c out bytes (is-loaded load nought) room in
-    let told : changed write.told (written_left write) ≡ saying of_write (changed (Written (length l)) (l ++ drop (length l) out)) = write.meets ∙ ap (saying of_write) (same ∙ back) in
+    let told : changed write.told (written_left write) ≡ saying of_write (changed (Ok (length l)) (l ++ drop (length l) out)) = write.meets ∙ ap (saying of_write) (same ∙ back) in
     (ap (λ (z : Changed LengthTold). z.said.refusal) told, ap (λ (z : Changed LengthTold). z.said.length) told, ap (λ (z : Changed LengthTold). z.bytes) told)

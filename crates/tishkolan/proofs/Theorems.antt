@@ -1,6 +1,6 @@
 -- What is shown of the calls that C makes, beside their contracts: the theorems that docs/PROMISES.md names, over the calls of Calls.antt and in words of specs/. The law behind each is
 -- the one that its proof names.
-use Rattle.std.specs.Prelude.{Some, None}
+use Rattle.std.specs.Prelude.{Some, None, Ok}
 use mathlib.Core.Path.{◌≡◌}
 use mathlib.Core.Logic.{◌↔◌, ◌⊎◌}
 use mathlib.Core.Bool.{true}
@@ -10,7 +10,6 @@ use lib.ListN.{length, take, drop}
 use Rattle.refusal.specs.declared.Cell.{Cell}
 use Rattle.words.specs.Word.{Bytes}
 use Rattle.lattice.specs.Lattice.{at, is_lattice_point}
-use Rattle.cell.specs.declared.CellAnswer.TheVariants as cell
 use Rattle.cell.specs.Bytes.{from_bytes_of, cell_width}
 use Rattle.label.specs.Terms.{uppered, IsLabel}
 use Rattle.table.specs.Records.{Layer, held_of, rows_of, is_sound, flag_width, value_width}
@@ -77,7 +76,7 @@ astar-seven = laws.Limits.astar-seven
 -- touched the cell left of it, or what the layer held at first where none did.
 pub flags-get-after-calls :
     {l last : Layer} {steps : List (Step flag_layer)} → IsLayer flag_layer l → AllOfBytes steps → Calls flag_layer l steps last
-    → (get : FlagsGet) → Handed last get.arguments.0.now get.arguments.1.0 → (c : Cell) → from_bytes_of get.arguments.1.1.0.now ≡ cell.Is c
+    → (get : FlagsGet) → Handed last get.arguments.0.now get.arguments.1.0 → (c : Cell) → from_bytes_of get.arguments.1.1.0.now ≡ Ok c
     → get.told ≡ held_told (last_left c steps l) last.count
 flags-get-after-calls = laws.Histories.flags-get-after-calls
 
@@ -85,7 +84,7 @@ flags-get-after-calls = laws.Histories.flags-get-after-calls
 -- touched the cell left of it, or what the layer held at first where none did.
 pub values-get-after-calls :
     {l last : Layer} {steps : List (Step value_layer)} → IsLayer value_layer l → AllOfBytes steps → Calls value_layer l steps last
-    → (get : ValuesGet) → Handed last get.arguments.0.now get.arguments.1.0 → (c : Cell) → from_bytes_of get.arguments.1.1.0.now ≡ cell.Is c
+    → (get : ValuesGet) → Handed last get.arguments.0.now get.arguments.1.0 → (c : Cell) → from_bytes_of get.arguments.1.1.0.now ≡ Ok c
     → get.told ≡ held_told (last_left c steps l) last.count
 values-get-after-calls = laws.Histories.values-get-after-calls
 
@@ -139,9 +138,9 @@ pub flags-room-serves-again :
     → let table = removing.arguments.0.now in
     let n = removing.arguments.1.0 in
     let left = removing.exit.0.now in
-    Bytes table → from_bytes_of removing.arguments.1.1.0.now ≡ cell.Is c → is_sound flag_width table n ≡ true → held_of c (rows_of flag_width table n) ≡ Some v
+    Bytes table → from_bytes_of removing.arguments.1.1.0.now ≡ Ok c → is_sound flag_width table n ≡ true → held_of c (rows_of flag_width table n) ≡ Some v
     → setting.arguments.0.now ≡ left → setting.arguments.1.0 ≡ removing.told.count
-    → from_bytes_of setting.arguments.1.1.0.now ≡ cell.Is d → held_of d (rows_of flag_width left removing.told.count) ≡ None → setting.told ≡ telling_count 0 0 n
+    → from_bytes_of setting.arguments.1.1.0.now ≡ Ok d → held_of d (rows_of flag_width left removing.told.count) ≡ None → setting.told ≡ telling_count 0 0 n
 flags-room-serves-again = laws.LayerAnswers.flags-room-serves-again
 
 -- After a remove of a cell that a value layer kept, a full one among them, a set of a cell that it does not keep then is answered, and the layer has as many cells as before.
@@ -150,9 +149,9 @@ pub values-room-serves-again :
     → let table = removing.arguments.0.now in
     let n = removing.arguments.1.0 in
     let left = removing.exit.0.now in
-    Bytes table → from_bytes_of removing.arguments.1.1.0.now ≡ cell.Is c → is_sound value_width table n ≡ true → held_of c (rows_of value_width table n) ≡ Some v
+    Bytes table → from_bytes_of removing.arguments.1.1.0.now ≡ Ok c → is_sound value_width table n ≡ true → held_of c (rows_of value_width table n) ≡ Some v
     → setting.arguments.0.now ≡ left → setting.arguments.1.0 ≡ removing.told.count
-    → from_bytes_of setting.arguments.1.1.0.now ≡ cell.Is d → held_of d (rows_of value_width left removing.told.count) ≡ None → setting.told ≡ telling_count 0 0 n
+    → from_bytes_of setting.arguments.1.1.0.now ≡ Ok d → held_of d (rows_of value_width left removing.told.count) ≡ None → setting.told ≡ telling_count 0 0 n
 values-room-serves-again = laws.LayerAnswers.values-room-serves-again
 
 -- ---- points and cells

@@ -5,20 +5,20 @@ ghost use Rattle.face.specs.Aggregates.{aggregation_of, of_aggregated, of_aggreg
 ghost use Rattle.face.specs.Layers.{of_count};
 
 use aggregate::{AggregateAnswer, Aggregated, Aggregation};
-use face::{Asked, BitsTold, CountTold};
-use refusal::{CountAnswer, Refusal};
+use face::{BitsTold, CountTold};
+use refusal::Refusal;
 
-fn aggregation_of(how: u32) -> Asked
+fn aggregation_of(how: u32) -> Option<Aggregation>
     ensures { result ≡ aggregation_of how }
 {
     match how {
-        0 => Asked::For(Aggregation::Count),
-        1 => Asked::For(Aggregation::Sum),
-        2 => Asked::For(Aggregation::Mean),
-        3 => Asked::For(Aggregation::Min),
-        4 => Asked::For(Aggregation::Max),
-        5 => Asked::For(Aggregation::Median),
-        _ => Asked::Unknown,
+        0 => Some(Aggregation::Count),
+        1 => Some(Aggregation::Sum),
+        2 => Some(Aggregation::Mean),
+        3 => Some(Aggregation::Min),
+        4 => Some(Aggregation::Max),
+        5 => Some(Aggregation::Median),
+        _ => None,
     }
 }
 
@@ -61,34 +61,29 @@ pub fn tishkolan_values_aggregate(table: &[u8], count: usize, cells: &[u8], how:
 {
     let what = aggregation_of(how);
     match what {
-        Asked::For(aggregation) => of_aggregate(aggregate::aggregate(
-            table,
-            count,
-            cells,
-            aggregation,
-        )),
-        Asked::Unknown => no_aggregation(table, count, cells),
+        Some(aggregation) => of_aggregate(aggregate::aggregate(table, count, cells, aggregation)),
+        None => no_aggregation(table, count, cells),
     }
 }
 
 // The fine layer is tested all the same.
-fn no_rollup(fine: &[u8], count: usize) -> CountAnswer
+fn no_rollup(fine: &[u8], count: usize) -> Result<usize, Refusal>
     ensures { result ≡ no_rollup fine.now count }
 {
     if table::is_sound(fine, table::VALUE_WIDTH, count) {
-        CountAnswer::Refused(Refusal::OutOfRange)
+        Err(Refusal::OutOfRange)
     } else {
-        CountAnswer::Refused(Refusal::BadLayer)
+        Err(Refusal::BadLayer)
     }
 }
 
-fn rollup_asked(fine: &[u8], count: usize, how: u32, coarse: &mut [u8]) -> CountAnswer
+fn rollup_asked(fine: &[u8], count: usize, how: u32, coarse: &mut [u8]) -> Result<usize, Refusal>
     ensures { changed result coarse.new ≡ rollup_asked fine.now count how coarse.old }
 {
     let what = aggregation_of(how);
     match what {
-        Asked::For(aggregation) => rollup::rollup(fine, count, aggregation, coarse),
-        Asked::Unknown => no_rollup(fine, count),
+        Some(aggregation) => rollup::rollup(fine, count, aggregation, coarse),
+        None => no_rollup(fine, count),
     }
 }
 

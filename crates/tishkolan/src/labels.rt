@@ -5,7 +5,6 @@ ghost use Rattle.label.specs.Label.{label_of};
 ghost use Rattle.face.specs.Told.{filled, fill};
 ghost use Rattle.face.specs.Labels.{label_told, place_in, place_filled, cell_told};
 
-use cell::CellAnswer;
 use face::{PlaceTold, RefusalTold};
 use refusal::{Cell, Refusal, Room};
 
@@ -26,18 +25,18 @@ pub fn tishkolan_cell_to_bech32m(cell: &[u8], out: &mut [u8]) -> RefusalTold
 {
     let given = cell::from_bytes(cell);
     match given {
-        CellAnswer::Refused(r) => face::told(r),
-        CellAnswer::Is(c) => put_label(out, c),
+        Err(r) => face::told(r),
+        Ok(c) => put_label(out, c),
     }
 }
 
 // Where a label is mistyped.
-fn place_in(a: CellAnswer) -> u64
+fn place_in(a: Result<Cell, Refusal>) -> u64
     ensures { result ≡ place_in a }
 {
     match a {
-        CellAnswer::Refused(r) => refusal::row_of(r).place,
-        CellAnswer::Is(_) => 0,
+        Err(r) => refusal::row_of(r).place,
+        Ok(_) => 0,
     }
 }
 

@@ -1,138 +1,146 @@
 // Layers for C: a table that C lends, and the count of its records in use, which C keeps.
 ghost use Rattle.std.specs.Prelude.{◌≡◌, ◌-◌};
-ghost use Rattle.layer.specs.Calls.{held_in, of_flags, of_value, of_contains, count_in};
+ghost use Rattle.layer.specs.Calls.{held_in, of_contains, count_in};
 ghost use Rattle.general.specs.Changed.{changed, saying};
 ghost use Rattle.layer.specs.Changes.{set_in, remove_in, clear_in, list_in, empty_in};
-ghost use Rattle.face.specs.Layers.{of_count, of_flags_kept, of_value_kept, of_contained, of_empty};
+ghost use Rattle.face.specs.Layers.{of_count, of_kept};
+ghost use Rattle.face.specs.Told.{of_truth};
 ghost use Rattle.table.specs.Records.{flag_width, value_width};
 
 use face::{CountTold, KeptTold, NumberTold};
-
-// A layer without cells has none to lose.
-fn one_less(count: usize) -> usize
-    ensures { result ≡ count - 1 }
-{
-    if count == 0 { 0 } else { count - 1 }
-}
 
 // The flags of a cell from now on.
 pub fn tishkolan_flags_set(table: &mut [u8], count: usize, cell: &[u8], flags: u32) -> CountTold
     ensures { changed result table.new ≡ saying (of_count count) (set_in flag_width table.old count cell.now flags) }
 {
-    face::layers::of_count(count, layer::changes::set_flags(table, count, cell, flags))
+    face::layers::of_count(
+        count,
+        layer::changes::set(table, table::FLAG_WIDTH, count, cell, u64::from(flags)),
+    )
 }
 
 // The flags of a cell, if there are any.
 pub fn tishkolan_flags_get(table: &[u8], count: usize, cell: &[u8]) -> KeptTold
-    ensures { result ≡ of_flags_kept count count (of_flags (held_in flag_width table.now count cell.now)) }
+    ensures { result ≡ of_kept count count (held_in flag_width table.now count cell.now) }
 {
-    face::layers::of_flags_kept(count, count, layer::get_flags(table, count, cell))
+    face::layers::of_kept(
+        count,
+        count,
+        layer::get(table, table::FLAG_WIDTH, count, cell),
+    )
 }
 
 // A cell forgotten, and what was kept of it.
 pub fn tishkolan_flags_remove(table: &mut [u8], count: usize, cell: &[u8]) -> KeptTold
     ensures { changed result table.new
-        ≡ saying (of_flags_kept count (count - 1)) (saying of_flags (remove_in flag_width table.old count cell.now)) }
+        ≡ saying (of_kept count (count - 1)) (remove_in flag_width table.old count cell.now) }
 {
-    face::layers::of_flags_kept(
+    face::layers::of_kept(
         count,
-        one_less(count),
-        layer::changes::remove_flags(table, count, cell),
+        count.saturating_sub(1),
+        layer::changes::remove(table, table::FLAG_WIDTH, count, cell),
     )
 }
 
 // Whether a flag layer has a cell.
 pub fn tishkolan_flags_contains(table: &[u8], count: usize, cell: &[u8]) -> NumberTold
-    ensures { result ≡ of_contained (of_contains (held_in flag_width table.now count cell.now)) }
+    ensures { result ≡ of_truth (of_contains (held_in flag_width table.now count cell.now)) }
 {
-    face::layers::of_contained(layer::contains_flags(table, count, cell))
+    layer::contains(table, table::FLAG_WIDTH, count, cell).into()
 }
 
 // How many cells a flag layer has.
 pub fn tishkolan_flags_count(table: &[u8], count: usize) -> CountTold
     ensures { result ≡ of_count count (count_in flag_width table.now count) }
 {
-    face::layers::of_count(count, layer::count_flags(table, count))
+    face::layers::of_count(count, layer::count(table, table::FLAG_WIDTH, count))
 }
 
 // Whether a flag layer has no cells.
 pub fn tishkolan_flags_is_empty(table: &[u8], count: usize) -> NumberTold
-    ensures { result ≡ of_empty (empty_in flag_width table.now count) }
+    ensures { result ≡ of_truth (empty_in flag_width table.now count) }
 {
-    face::layers::of_empty(layer::is_empty_flags(table, count))
+    layer::is_empty(table, table::FLAG_WIDTH, count).into()
 }
 
 // A flag layer without cells.
 pub fn tishkolan_flags_clear(table: &mut [u8])
     ensures { table.new ≡ clear_in flag_width table.old }
 {
-    layer::clear_flags(table);
+    layer::clear(table, table::FLAG_WIDTH);
 }
 
 // The records of a flag layer.
 pub fn tishkolan_flags_list(table: &[u8], count: usize, out: &mut [u8]) -> CountTold
     ensures { changed result out.new ≡ saying (of_count count) (list_in flag_width table.now count out.old) }
 {
-    face::layers::of_count(count, layer::list_flags(table, count, out))
+    face::layers::of_count(count, layer::list(table, table::FLAG_WIDTH, count, out))
 }
 
 // The bits of a cell's value from now on.
 pub fn tishkolan_values_set(table: &mut [u8], count: usize, cell: &[u8], bits: u64) -> CountTold
     ensures { changed result table.new ≡ saying (of_count count) (set_in value_width table.old count cell.now bits) }
 {
-    face::layers::of_count(count, layer::changes::set_value(table, count, cell, bits))
+    face::layers::of_count(
+        count,
+        layer::changes::set(table, table::VALUE_WIDTH, count, cell, bits),
+    )
 }
 
 // The bits of a cell's value, if there are any.
 pub fn tishkolan_values_get(table: &[u8], count: usize, cell: &[u8]) -> KeptTold
-    ensures { result ≡ of_value_kept count count (of_value (held_in value_width table.now count cell.now)) }
+    ensures { result ≡ of_kept count count (held_in value_width table.now count cell.now) }
 {
-    face::layers::of_value_kept(count, count, layer::get_value(table, count, cell))
+    face::layers::of_kept(
+        count,
+        count,
+        layer::get(table, table::VALUE_WIDTH, count, cell),
+    )
 }
 
 // A cell forgotten, and what was kept of it.
 pub fn tishkolan_values_remove(table: &mut [u8], count: usize, cell: &[u8]) -> KeptTold
     ensures { changed result table.new
-        ≡ saying (of_value_kept count (count - 1)) (saying of_value (remove_in value_width table.old count cell.now)) }
+        ≡ saying (of_kept count (count - 1)) (remove_in value_width table.old count cell.now) }
 {
-    face::layers::of_value_kept(
+    face::layers::of_kept(
         count,
-        one_less(count),
-        layer::changes::remove_value(table, count, cell),
+        count.saturating_sub(1),
+        layer::changes::remove(table, table::VALUE_WIDTH, count, cell),
     )
 }
 
 // Whether a value layer has a cell.
 pub fn tishkolan_values_contains(table: &[u8], count: usize, cell: &[u8]) -> NumberTold
-    ensures { result ≡ of_contained (of_contains (held_in value_width table.now count cell.now)) }
+    ensures { result ≡ of_truth (of_contains (held_in value_width table.now count cell.now)) }
 {
-    face::layers::of_contained(layer::contains_value(table, count, cell))
+    layer::contains(table, table::VALUE_WIDTH, count, cell).into()
 }
 
 // How many cells a value layer has.
 pub fn tishkolan_values_count(table: &[u8], count: usize) -> CountTold
     ensures { result ≡ of_count count (count_in value_width table.now count) }
 {
-    face::layers::of_count(count, layer::count_values(table, count))
+    face::layers::of_count(count, layer::count(table, table::VALUE_WIDTH, count))
 }
 
 // Whether a value layer has no cells.
 pub fn tishkolan_values_is_empty(table: &[u8], count: usize) -> NumberTold
-    ensures { result ≡ of_empty (empty_in value_width table.now count) }
+    ensures { result ≡ of_truth (empty_in value_width table.now count) }
 {
-    face::layers::of_empty(layer::is_empty_values(table, count))
+    layer::is_empty(table, table::VALUE_WIDTH, count).into()
 }
 
 // A value layer without cells.
 pub fn tishkolan_values_clear(table: &mut [u8])
     ensures { table.new ≡ clear_in value_width table.old }
 {
-    layer::clear_values(table);
+    layer::clear(table, table::VALUE_WIDTH);
 }
 
 // The records of a value layer.
 pub fn tishkolan_values_list(table: &[u8], count: usize, out: &mut [u8]) -> CountTold
     ensures { changed result out.new ≡ saying (of_count count) (list_in value_width table.now count out.old) }
 {
-    face::layers::of_count(count, layer::list_values(table, count, out))
+    face::layers::of_count(count, layer::list(table, table::VALUE_WIDTH, count, out))
 }

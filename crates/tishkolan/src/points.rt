@@ -7,43 +7,38 @@ ghost use Rattle.root.specs.Root.{root_bits_of};
 ghost use Rattle.lattice.specs.Lattice.{at, is_lattice_point, parity_of, parent_of, manhattan_of};
 ghost use Rattle.snap.specs.Snap.{point, snap_of, physical_bits_of};
 ghost use Rattle.distance.specs.Distance.{distance_of};
-ghost use Rattle.face.specs.Told.{of_root, of_parity, of_coord, of_point, of_distance, of_number, filled, fronted};
+ghost use Rattle.face.specs.Told.{of_root, of_parity, of_coord, of_point, of_distance, of_number, filled, fill};
 ghost use Rattle.face.specs.Points.{opposite_told, triple, triples, neighbors_told, children_told};
 
 use face::{BitsTold, CoordTold, NumberTold, PointTold, RefusalTold};
-use refusal::{Coord, Outcome, Refusal, Room};
+use refusal::{Coord, Refusal, Room};
 
 // The numbers of a place: x, y and z.
 const PLACE_LENGTH: usize = 3;
-
-const NEIGHBORS_LENGTH: usize = 14 * PLACE_LENGTH;
-
-const CHILDREN_LENGTH: usize = 8 * PLACE_LENGTH;
 
 // The nearest double to the root.
 pub fn tishkolan_square_root(bits: u64) -> BitsTold
     ensures { result ≡ of_root (root_bits_of bits) }
 {
-    face::of_root(root::square_root_bits(bits))
+    root::square_root_bits(bits).into()
 }
 
 pub fn tishkolan_parity(x: i32, y: i32, z: i32) -> NumberTold
     ensures { result ≡ of_parity (parity_of (at x y z)) }
 {
-    face::of_parity(lattice::parity_of(Coord { x, y, z }))
+    lattice::parity_of(Coord { x, y, z }).into()
 }
 
 // The other of the two parities, 0 and 1; no other number is one.
 pub fn tishkolan_opposite(parity: u32) -> NumberTold
     ensures { result ≡ opposite_told parity }
 {
-    if parity == 0 {
-        return face::number(1);
-    }
-    if parity == 1 {
-        return face::number(0);
-    }
-    face::no_number(Refusal::OutOfRange)
+    let other = match parity {
+        0 => Ok(1),
+        1 => Ok(0),
+        _ => Err(Refusal::OutOfRange),
+    };
+    other.into()
 }
 
 pub fn tishkolan_is_valid_lattice_point(x: i32, y: i32, z: i32) -> bool
@@ -62,32 +57,26 @@ fn put_place(out: &mut [i32], at: usize, c: Coord)
     out[at + 2] = c.z;
 }
 
-// The coordinates of these places, at the front.
-fn put_places(out: &mut [i32], places: &[Coord])
-    requires { 3 * length places.now ≤ length out.old }
-    ensures { out.new ≡ fronted (triples places.now) out.old }
+// The coordinates of these places at the front of what C lends.
+fn put_places(out: &mut [i32], places: &[Coord]) -> RefusalTold
+    ensures { filled result out.new ≡ fill (triples places.now) out.old }
 {
+    if out.len() < PLACE_LENGTH * places.len() {
+        return Refusal::NoRoom(Room::Output).into();
+    }
     for (i, c) in places.iter().enumerate() {
         put_place(out, PLACE_LENGTH * i, *c);
     }
+    face::answered()
 }
 
 // The 14 neighbours, refused by their parity, their range and at last for want of room.
 pub fn tishkolan_lattice_neighbors(x: i32, y: i32, z: i32, out: &mut [i32]) -> RefusalTold
     ensures { filled result out.new ≡ neighbors_told (at x y z) out.old }
 {
-    let found = lattice::get_neighbors(Coord { x, y, z });
-    let outcome = found.outcome;
-    let places = found.coords;
-    match outcome {
-        Outcome::Refused(r) => face::told(r),
-        Outcome::Answered => {
-            if out.len() < NEIGHBORS_LENGTH {
-                return face::told(Refusal::NoRoom(Room::Output));
-            }
-            put_places(out, &places);
-            face::answered()
-        }
+    match lattice::get_neighbors(Coord { x, y, z }) {
+        Ok(places) => put_places(out, &places),
+        Err(r) => r.into(),
     }
 }
 
@@ -95,44 +84,35 @@ pub fn tishkolan_lattice_neighbors(x: i32, y: i32, z: i32, out: &mut [i32]) -> R
 pub fn tishkolan_lattice_children(x: i32, y: i32, z: i32, out: &mut [i32]) -> RefusalTold
     ensures { filled result out.new ≡ children_told (at x y z) out.old }
 {
-    let found = lattice::get_children(Coord { x, y, z });
-    let outcome = found.outcome;
-    let places = found.coords;
-    match outcome {
-        Outcome::Refused(r) => face::told(r),
-        Outcome::Answered => {
-            if out.len() < CHILDREN_LENGTH {
-                return face::told(Refusal::NoRoom(Room::Output));
-            }
-            put_places(out, &places);
-            face::answered()
-        }
+    match lattice::get_children(Coord { x, y, z }) {
+        Ok(places) => put_places(out, &places),
+        Err(r) => r.into(),
     }
 }
 
 pub fn tishkolan_lattice_parent(x: i32, y: i32, z: i32) -> CoordTold
     ensures { result ≡ of_coord (parent_of (at x y z)) }
 {
-    face::of_coord(lattice::get_parent(Coord { x, y, z }))
+    lattice::get_parent(Coord { x, y, z }).into()
 }
 
 // The lattice point nearest to a physical one.
 pub fn tishkolan_physical_to_lattice(x: u64, y: u64, z: u64, resolution: u8) -> CoordTold
     ensures { result ≡ of_coord (snap_of (point (of_bits binary64 x) (of_bits binary64 y) (of_bits binary64 z)) resolution) }
 {
-    face::of_coord(snap::snap_bits(x, y, z, resolution))
+    snap::snap_bits(x, y, z, resolution).into()
 }
 
 pub fn tishkolan_to_physical(x: i32, y: i32, z: i32) -> PointTold
     ensures { result ≡ of_point (physical_bits_of (at x y z)) }
 {
-    face::of_point(snap::physical_bits(Coord { x, y, z }))
+    snap::physical_bits(Coord { x, y, z }).into()
 }
 
 pub fn tishkolan_lattice_distance(ax: i32, ay: i32, az: i32, bx: i32, by: i32, bz: i32) -> BitsTold
     ensures { result ≡ of_distance (distance_of (at ax ay az) (at bx by bz)) }
 {
-    face::of_distance(distance::distance_to(
+    distance::distance_to(
         Coord {
             x: ax,
             y: ay,
@@ -143,7 +123,8 @@ pub fn tishkolan_lattice_distance(ax: i32, ay: i32, az: i32, bx: i32, by: i32, b
             y: by,
             z: bz,
         },
-    ))
+    )
+    .into()
 }
 
 pub fn tishkolan_lattice_manhattan_distance(
@@ -156,7 +137,7 @@ pub fn tishkolan_lattice_manhattan_distance(
 ) -> NumberTold
     ensures { result ≡ of_number (manhattan_of (at ax ay az) (at bx by bz)) }
 {
-    face::of_number(lattice::manhattan_distance_to(
+    lattice::manhattan_distance_to(
         Coord {
             x: ax,
             y: ay,
@@ -167,5 +148,6 @@ pub fn tishkolan_lattice_manhattan_distance(
             y: by,
             z: bz,
         },
-    ))
+    )
+    .into()
 }

@@ -1,9 +1,10 @@
 // Layers for C: a table that C lends, and the count of its records in use, which C keeps.
 ghost use Rattle.std.specs.Prelude.{◌≡◌, ◌-◌};
-ghost use Rattle.layer.specs.Calls.{held_in, of_flags, of_value, of_contains, count_in};
+ghost use Rattle.layer.specs.Calls.{held_in, of_contains, count_in};
 ghost use Rattle.general.specs.Changed.{changed, saying};
 ghost use Rattle.layer.specs.Changes.{set_in, remove_in, clear_in, list_in, empty_in};
-ghost use Rattle.face.specs.Layers.{of_count, of_flags_kept, of_value_kept, of_contained, of_empty};
+ghost use Rattle.face.specs.Layers.{of_count, of_kept};
+ghost use Rattle.face.specs.Told.{of_truth};
 ghost use Rattle.table.specs.Records.{flag_width, value_width};
 
 use face::{CountTold, KeptTold, NumberTold};
@@ -24,7 +25,7 @@ pub extern "C" fn tishkolan_flags_set(
 // The flags of a cell, if there are any.
 #[unsafe(no_mangle)]
 pub extern "C" fn tishkolan_flags_get(table: &[u8], count: usize, cell: &[u8]) -> KeptTold
-    ensures { result ≡ of_flags_kept count count (of_flags (held_in flag_width table.now count cell.now)) }
+    ensures { result ≡ of_kept count count (held_in flag_width table.now count cell.now) }
 {
     tishkolan::layers::tishkolan_flags_get(table, count, cell)
 }
@@ -33,7 +34,7 @@ pub extern "C" fn tishkolan_flags_get(table: &[u8], count: usize, cell: &[u8]) -
 #[unsafe(no_mangle)]
 pub extern "C" fn tishkolan_flags_remove(table: &mut [u8], count: usize, cell: &[u8]) -> KeptTold
     ensures { changed result table.new
-        ≡ saying (of_flags_kept count (count - 1)) (saying of_flags (remove_in flag_width table.old count cell.now)) }
+        ≡ saying (of_kept count (count - 1)) (remove_in flag_width table.old count cell.now) }
 {
     tishkolan::layers::tishkolan_flags_remove(table, count, cell)
 }
@@ -41,7 +42,7 @@ pub extern "C" fn tishkolan_flags_remove(table: &mut [u8], count: usize, cell: &
 // Whether a flag layer has a cell.
 #[unsafe(no_mangle)]
 pub extern "C" fn tishkolan_flags_contains(table: &[u8], count: usize, cell: &[u8]) -> NumberTold
-    ensures { result ≡ of_contained (of_contains (held_in flag_width table.now count cell.now)) }
+    ensures { result ≡ of_truth (of_contains (held_in flag_width table.now count cell.now)) }
 {
     tishkolan::layers::tishkolan_flags_contains(table, count, cell)
 }
@@ -57,7 +58,7 @@ pub extern "C" fn tishkolan_flags_count(table: &[u8], count: usize) -> CountTold
 // Whether a flag layer has no cells.
 #[unsafe(no_mangle)]
 pub extern "C" fn tishkolan_flags_is_empty(table: &[u8], count: usize) -> NumberTold
-    ensures { result ≡ of_empty (empty_in flag_width table.now count) }
+    ensures { result ≡ of_truth (empty_in flag_width table.now count) }
 {
     tishkolan::layers::tishkolan_flags_is_empty(table, count)
 }
@@ -94,7 +95,7 @@ pub extern "C" fn tishkolan_values_set(
 // The bits of a cell's value, if there are any.
 #[unsafe(no_mangle)]
 pub extern "C" fn tishkolan_values_get(table: &[u8], count: usize, cell: &[u8]) -> KeptTold
-    ensures { result ≡ of_value_kept count count (of_value (held_in value_width table.now count cell.now)) }
+    ensures { result ≡ of_kept count count (held_in value_width table.now count cell.now) }
 {
     tishkolan::layers::tishkolan_values_get(table, count, cell)
 }
@@ -103,7 +104,7 @@ pub extern "C" fn tishkolan_values_get(table: &[u8], count: usize, cell: &[u8]) 
 #[unsafe(no_mangle)]
 pub extern "C" fn tishkolan_values_remove(table: &mut [u8], count: usize, cell: &[u8]) -> KeptTold
     ensures { changed result table.new
-        ≡ saying (of_value_kept count (count - 1)) (saying of_value (remove_in value_width table.old count cell.now)) }
+        ≡ saying (of_kept count (count - 1)) (remove_in value_width table.old count cell.now) }
 {
     tishkolan::layers::tishkolan_values_remove(table, count, cell)
 }
@@ -111,7 +112,7 @@ pub extern "C" fn tishkolan_values_remove(table: &mut [u8], count: usize, cell: 
 // Whether a value layer has a cell.
 #[unsafe(no_mangle)]
 pub extern "C" fn tishkolan_values_contains(table: &[u8], count: usize, cell: &[u8]) -> NumberTold
-    ensures { result ≡ of_contained (of_contains (held_in value_width table.now count cell.now)) }
+    ensures { result ≡ of_truth (of_contains (held_in value_width table.now count cell.now)) }
 {
     tishkolan::layers::tishkolan_values_contains(table, count, cell)
 }
@@ -127,7 +128,7 @@ pub extern "C" fn tishkolan_values_count(table: &[u8], count: usize) -> CountTol
 // Whether a value layer has no cells.
 #[unsafe(no_mangle)]
 pub extern "C" fn tishkolan_values_is_empty(table: &[u8], count: usize) -> NumberTold
-    ensures { result ≡ of_empty (empty_in value_width table.now count) }
+    ensures { result ≡ of_truth (empty_in value_width table.now count) }
 {
     tishkolan::layers::tishkolan_values_is_empty(table, count)
 }

@@ -1,8 +1,8 @@
 -- Each number by its place in the list; another is past its end.
+use Rattle.std.specs.Prelude.{None}
 use mathlib.Core.Path.{sym, ap}
 use native.Mathlib.Omega.{arith}
 use lib.ListN.{get_or-eq_default}
-use Rattle.face.specs.declared.Asked.TheVariants.{Unknown}
 use Rattle.face.specs.Aggregates.{aggregations, aggregation_of}
 use Rattle.tishkolan.proofs.aggregates.aggregation_of.Goals as goal
 
@@ -32,4 +32,4 @@ returns-in-5 c = sym (ap aggregation_of c.in-5.is)
 
 pub returns-in_default : goal.returns-in_default
 unfolding aggregation_of
-returns-in_default c = sym (get_or-eq_default aggregations Unknown {n = c.args.how} (omega arith))
+returns-in_default c = sym (get_or-eq_default aggregations None {n = c.args.how} (omega arith))

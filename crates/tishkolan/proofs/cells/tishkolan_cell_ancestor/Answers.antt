@@ -1,8 +1,10 @@
 -- The bytes are read; the answer for the cell is put into the lent bytes.
+use Rattle.std.specs.Prelude.{Result}
+use Rattle.refusal.specs.declared.Cell.{Cell}
+use Rattle.refusal.specs.declared.Refusal.{Refusal}
 use mathlib.Core.Path.{◌≡◌, ap, ◌∙◌}
 use mathlib.Core.List.{List}
 use Prim.Native.Nat.{ℕ}
-use Rattle.cell.specs.declared.CellAnswer.{CellAnswer}
 use Rattle.cell.specs.Bytes.{from_bytes_of, by_cell}
 use Rattle.cell.specs.Cell.{ancestor_of}
 use Rattle.face.specs.Told.{filled}
@@ -10,7 +12,7 @@ use Rattle.face.specs.Cells.{unfilled, fill_cell, ancestor_told}
 use Rattle.tishkolan.proofs.Given.{on-cell}
 use Rattle.tishkolan.proofs.cells.tishkolan_cell_ancestor.Goals as goal
 
-by-cell : (l : List ℕ) (target : ℕ) (out : List ℕ) {a b : CellAnswer} → a ≡ from_bytes_of l → a ≡ b → by_cell (unfilled out) (λ d. fill_cell out (ancestor_of d target)) b ≡ ancestor_told l target out
+by-cell : (l : List ℕ) (target : ℕ) (out : List ℕ) {a b : Result Cell Refusal} → a ≡ from_bytes_of l → a ≡ b → by_cell (unfilled out) (λ d. fill_cell out (ancestor_of d target)) b ≡ ancestor_told l target out
 unfolding ancestor_told
 by-cell l target out = on-cell (unfilled out) (λ d. fill_cell out (ancestor_of d target)) l
 

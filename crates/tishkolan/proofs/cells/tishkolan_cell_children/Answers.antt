@@ -1,10 +1,12 @@
 -- The bytes are read; what is found is told by the tests that led there: the outcome, then the room.
+use Rattle.std.specs.Prelude.{Result}
+use Rattle.refusal.specs.declared.Cell.{Cell}
+use Rattle.refusal.specs.declared.Refusal.{Refusal}
 use mathlib.Core.Path.{◌≡◌, ap, ◌∙◌}
 use mathlib.Core.List.{List}
 use Prim.Native.Nat.{ℕ, ◌*◌}
 use native.Mathlib.Omega.{arith}
 use lib.ListN.{length}
-use Rattle.cell.specs.declared.CellAnswer.{CellAnswer}
 use Rattle.cell.specs.declared.Children.{Children}
 use Rattle.cell.specs.Cell.{children_of}
 use Rattle.cell.specs.Bytes.{cell_bytes, from_bytes_of, by_cell}
@@ -19,7 +21,7 @@ use Rattle.tishkolan.proofs.cells.tishkolan_cell_children.Goals.{After-get_child
 abbrev put : List ℕ → Children → Filled ℕ
 put out n = fill n.outcome (cells_bytes n.cells) out
 
-by-cell : (l out : List ℕ) {a b : CellAnswer} → a ≡ from_bytes_of l → a ≡ b → by_cell (unfilled out) (λ d. put out (children_of d)) b ≡ children_told l out
+by-cell : (l out : List ℕ) {a b : Result Cell Refusal} → a ≡ from_bytes_of l → a ≡ b → by_cell (unfilled out) (λ d. put out (children_of d)) b ≡ children_told l out
 unfolding children_told
 by-cell l out = on-cell (unfilled out) (λ d. put out (children_of d)) l
 

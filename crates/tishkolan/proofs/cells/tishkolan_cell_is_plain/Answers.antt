@@ -1,9 +1,11 @@
 -- The bytes are read, and each answer is told by its kind.
+use Rattle.std.specs.Prelude.{Result}
+use Rattle.refusal.specs.declared.Cell.{Cell}
+use Rattle.refusal.specs.declared.Refusal.{Refusal}
 use mathlib.Core.Path.{◌≡◌, sym, ap, ◌∙◌}
 use mathlib.Core.Bool.{Bool, cond}
 use mathlib.Core.List.{List}
 use Prim.Native.Nat.{ℕ}
-use Rattle.cell.specs.declared.CellAnswer.{CellAnswer}
 use Rattle.cell.specs.Bytes.{from_bytes_of, by_cell}
 use lib.IntN.{pos}
 use Rattle.cell.specs.Cell.{is_plain}
@@ -16,7 +18,7 @@ use Rattle.tishkolan.proofs.cells.tishkolan_cell_is_plain.Goals as goal
 abbrev bit : Bool → NumberTold
 bit b = number_told (cond b (pos 1) (pos 0))
 
-by-cell : (l : List ℕ) {a b : CellAnswer} → a ≡ from_bytes_of l → a ≡ b → by_cell no_number (λ d. bit (is_plain d)) b ≡ is_plain_told l
+by-cell : (l : List ℕ) {a b : Result Cell Refusal} → a ≡ from_bytes_of l → a ≡ b → by_cell no_number (λ d. bit (is_plain d)) b ≡ is_plain_told l
 unfolding is_plain_told
 by-cell = on-cell no_number (λ d. bit (is_plain d))
 

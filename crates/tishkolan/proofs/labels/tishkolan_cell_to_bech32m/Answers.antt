@@ -1,9 +1,10 @@
 -- The bytes are read; the label of the cell is put into the lent bytes.
+use Rattle.std.specs.Prelude.{Result, Ok}
+use Rattle.refusal.specs.declared.Cell.{Cell}
+use Rattle.refusal.specs.declared.Refusal.{Refusal}
 use mathlib.Core.Path.{◌≡◌, ◌∙◌}
 use mathlib.Core.List.{List}
 use Prim.Native.Nat.{ℕ}
-use Rattle.refusal.specs.declared.Outcome.TheVariants.{Answered}
-use Rattle.cell.specs.declared.CellAnswer.{CellAnswer}
 use Rattle.cell.specs.Bytes.{from_bytes_of, by_cell}
 use Rattle.label.specs.Label.{label_of}
 use Rattle.face.specs.Told.{filled, fill}
@@ -12,9 +13,9 @@ use Rattle.face.specs.Labels.{label_told}
 use Rattle.tishkolan.proofs.Given.{on-cell}
 use Rattle.tishkolan.proofs.labels.tishkolan_cell_to_bech32m.Goals as goal
 
-by-cell : (l out : List ℕ) {a b : CellAnswer} → a ≡ from_bytes_of l → a ≡ b → by_cell (unfilled out) (λ d. fill Answered (label_of d) out) b ≡ label_told l out
+by-cell : (l out : List ℕ) {a b : Result Cell Refusal} → a ≡ from_bytes_of l → a ≡ b → by_cell (unfilled out) (λ d. fill (Ok tt) (label_of d) out) b ≡ label_told l out
 unfolding label_told
-by-cell l out = on-cell (unfilled out) (λ d. fill Answered (label_of d) out) l
+by-cell l out = on-cell (unfilled out) (λ d. fill (Ok tt) (label_of d) out) l
 
 pub returns-in-Refused : goal.returns-in-Refused
 returns-in-Refused c =
