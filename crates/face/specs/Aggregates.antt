@@ -2,22 +2,16 @@
 -- aggregation is OutOfRange after BadList and BadLayer. An aggregate is told by its bits. Definitions only.
 use Rattle.refusal.specs.declared.Refusal.{Refusal}
 use Rattle.aggregate.specs.declared.Aggregation.{Aggregation}
-use Rattle.std.specs.Prelude.{List, [], ◌∷◌, ℕ, get_or, Result, Err, Option, Some, None}
-use Rattle.std.specs.Float.{binary64}
-use Rattle.std.specs.Float.Ieee.{to_bits}
+use Rattle.std.specs.Prelude.{List, [], ◌∷◌, ℕ, get_or, Float, Result, Err, Option, Some, None}
 use Rattle.refusal.specs.declared.Refusal.TheVariants as refusal
 use Rattle.cell.specs.Lists.{is_list}
 use Rattle.table.specs.Records.{is_sound, value_width}
 use Rattle.aggregate.specs.declared.Aggregation.TheVariants.{Count, Sum, Mean, Min, Max, Median}
-use Rattle.aggregate.specs.declared.Aggregated.{Aggregated}
-use Rattle.aggregate.specs.declared.Aggregated.TheVariants.{Number, NoValues, HasNan}
-use Rattle.aggregate.specs.declared.AggregateAnswer.{AggregateAnswer}
-use Rattle.aggregate.specs.declared.AggregateAnswer.TheVariants as answer
 use Rattle.aggregate.specs.Aggregate.{aggregate_in}
 use Rattle.general.specs.Changed.{Changed, changed}
 use Rattle.rollup.specs.Rollup.{rollup_in}
 use Rattle.face.specs.declared.BitsTold.{BitsTold}
-use Rattle.face.specs.Told.{bits_told, no_bits}
+use Rattle.face.specs.Told.{of_distance}
 use Rattle.general.specs.Refuse.{refuse_unless}
 
 -- the aggregations in the order of their numbers
@@ -28,43 +22,32 @@ aggregations = Some Count ∷ Some Sum ∷ Some Mean ∷ Some Min ∷ Some Max �
 unfoldable pub aggregation_of : ℕ → Option Aggregation
 aggregation_of how = get_or aggregations how None
 
--- an aggregate for C: its bits, or NoValues or HasNaN
-abbrev pub of_aggregated : Aggregated → BitsTold
-of_aggregated (Number x) = bits_told (to_bits binary64 x)
-of_aggregated NoValues = no_bits refusal.NoValues
-of_aggregated HasNan = no_bits refusal.HasNan
-
--- the answer about an aggregate for C
-abbrev pub of_aggregate : AggregateAnswer → BitsTold
-of_aggregate (answer.Found a) = of_aggregated a
-of_aggregate (answer.Refused r) = no_bits r
-
--- what is told where the number stands for no aggregation: BadList, BadLayer, OutOfRange
-unfoldable pub no_aggregation : List ℕ → ℕ → List ℕ → BitsTold
+-- why there is no aggregate where the number stands for no aggregation: BadList, BadLayer, OutOfRange
+unfoldable pub no_aggregation : List ℕ → ℕ → List ℕ → Refusal
 unfolding is_sound
-no_aggregation l n cells = no_bits (refuse_unless (is_list cells) refusal.BadList (refuse_unless (is_sound value_width l n) refusal.BadLayer refusal.OutOfRange))
+no_aggregation l n cells = refuse_unless (is_list cells) refusal.BadList (refuse_unless (is_sound value_width l n) refusal.BadLayer refusal.OutOfRange)
 
--- what C is told by what it asked for
-abbrev pub aggregate_by : Option Aggregation → List ℕ → ℕ → List ℕ → BitsTold
-aggregate_by (Some how) l n cells = of_aggregate (aggregate_in how l n cells)
-aggregate_by None l n cells = no_aggregation l n cells
+-- the aggregate by what C asked for
+abbrev pub aggregate_by : Option Aggregation → List ℕ → ℕ → List ℕ → Result Float Refusal
+aggregate_by (Some how) l n cells = aggregate_in how l n cells
+aggregate_by None l n cells = Err (no_aggregation l n cells)
 
--- the aggregate of the values of a list's cells, by the aggregation's number
+-- the aggregate of the values of a list's cells, by the aggregation's number: its bits, or the refusal, NoValues and HasNaN among them
 unfoldable pub aggregate_told : List ℕ → ℕ → List ℕ → ℕ → BitsTold
 unfolding aggregate_in aggregation_of no_aggregation
-aggregate_told l n cells how = aggregate_by (aggregation_of how) l n cells
+aggregate_told l n cells how = of_distance (aggregate_by (aggregation_of how) l n cells)
 
 -- ---- rollup
 
--- what is said where the number stands for no aggregation: BadLayer, OutOfRange
-unfoldable pub no_rollup : List ℕ → ℕ → Result ℕ Refusal
+-- why there is no rollup where the number stands for no aggregation: BadLayer, OutOfRange
+unfoldable pub no_rollup : List ℕ → ℕ → Refusal
 unfolding is_sound
-no_rollup fine n = Err (refuse_unless (is_sound value_width fine n) refusal.BadLayer refusal.OutOfRange)
+no_rollup fine n = refuse_unless (is_sound value_width fine n) refusal.BadLayer refusal.OutOfRange
 
 -- what is said by what C asked for, and what stands in the coarse table
 abbrev pub rollup_by : Option Aggregation → List ℕ → ℕ → List ℕ → Changed (Result ℕ Refusal)
 rollup_by (Some how) fine n coarse = rollup_in how fine n coarse
-rollup_by None fine n coarse = changed (no_rollup fine n) coarse
+rollup_by None fine n coarse = changed (Err (no_rollup fine n)) coarse
 
 -- the rollup by the aggregation's number
 unfoldable pub rollup_asked : List ℕ → ℕ → ℕ → List ℕ → Changed (Result ℕ Refusal)

@@ -1,10 +1,10 @@
 // The aggregates and the rollup of a value layer for C, which asks for one by its number.
 ghost use Rattle.std.specs.Prelude.{◌≡◌};
 ghost use Rattle.general.specs.Changed.{changed, saying};
-ghost use Rattle.face.specs.Aggregates.{aggregation_of, of_aggregated, of_aggregate, no_aggregation, aggregate_told, no_rollup, rollup_asked};
+ghost use Rattle.face.specs.Aggregates.{aggregation_of, no_aggregation, aggregate_told, no_rollup, rollup_asked};
 ghost use Rattle.face.specs.Layers.{of_count};
 
-use aggregate::{AggregateAnswer, Aggregated, Aggregation};
+use aggregate::Aggregation;
 use face::{BitsTold, CountTold};
 use refusal::Refusal;
 
@@ -22,36 +22,16 @@ fn aggregation_of(how: u32) -> Option<Aggregation>
     }
 }
 
-fn of_aggregated(a: Aggregated) -> BitsTold
-    ensures { result ≡ of_aggregated a }
-{
-    match a {
-        Aggregated::Number(x) => face::bits(float::bits(x)),
-        Aggregated::NoValues => face::no_bits(Refusal::NoValues),
-        Aggregated::HasNan => face::no_bits(Refusal::HasNan),
-    }
-}
-
-fn of_aggregate(a: AggregateAnswer) -> BitsTold
-    ensures { result ≡ of_aggregate a }
-{
-    match a {
-        AggregateAnswer::Found(found) => of_aggregated(found),
-        AggregateAnswer::Refused(r) => face::no_bits(r),
-    }
-}
-
-// List and layer are tested all the same.
-fn no_aggregation(table: &[u8], count: usize, cells: &[u8]) -> BitsTold
+// Why there is no aggregate of none: list and layer are tested all the same.
+fn no_aggregation(table: &[u8], count: usize, cells: &[u8]) -> Refusal
     ensures { result ≡ no_aggregation table.now count cells.now }
 {
     if cells.len() % cell::CELL_WIDTH != 0 {
-        return face::no_bits(Refusal::BadList);
-    }
-    if table::is_sound(table, table::VALUE_WIDTH, count) {
-        face::no_bits(Refusal::OutOfRange)
+        Refusal::BadList
+    } else if table::is_sound(table, table::VALUE_WIDTH, count) {
+        Refusal::OutOfRange
     } else {
-        face::no_bits(Refusal::BadLayer)
+        Refusal::BadLayer
     }
 }
 
@@ -59,31 +39,30 @@ fn no_aggregation(table: &[u8], count: usize, cells: &[u8]) -> BitsTold
 pub fn tishkolan_values_aggregate(table: &[u8], count: usize, cells: &[u8], how: u32) -> BitsTold
     ensures { result ≡ aggregate_told table.now count cells.now how }
 {
-    let what = aggregation_of(how);
-    match what {
-        Some(aggregation) => of_aggregate(aggregate::aggregate(table, count, cells, aggregation)),
-        None => no_aggregation(table, count, cells),
-    }
+    let found = match aggregation_of(how) {
+        Some(aggregation) => aggregate::aggregate(table, count, cells, aggregation),
+        None => Err(no_aggregation(table, count, cells)),
+    };
+    found.into()
 }
 
 // The fine layer is tested all the same.
-fn no_rollup(fine: &[u8], count: usize) -> Result<usize, Refusal>
+fn no_rollup(fine: &[u8], count: usize) -> Refusal
     ensures { result ≡ no_rollup fine.now count }
 {
     if table::is_sound(fine, table::VALUE_WIDTH, count) {
-        Err(Refusal::OutOfRange)
+        Refusal::OutOfRange
     } else {
-        Err(Refusal::BadLayer)
+        Refusal::BadLayer
     }
 }
 
 fn rollup_asked(fine: &[u8], count: usize, how: u32, coarse: &mut [u8]) -> Result<usize, Refusal>
     ensures { changed result coarse.new ≡ rollup_asked fine.now count how coarse.old }
 {
-    let what = aggregation_of(how);
-    match what {
+    match aggregation_of(how) {
         Some(aggregation) => rollup::rollup(fine, count, aggregation, coarse),
-        None => no_rollup(fine, count),
+        None => Err(no_rollup(fine, count)),
     }
 }
 

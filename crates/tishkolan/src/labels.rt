@@ -1,6 +1,5 @@
 // Cell labels for C: a label is 37 characters with nothing behind them.
 ghost use Rattle.std.specs.Prelude.{◌≡◌};
-ghost use Rattle.refusal.specs.declared.Outcome.TheVariants.{Answered};
 ghost use Rattle.label.specs.Label.{label_of};
 ghost use Rattle.face.specs.Told.{filled, fill};
 ghost use Rattle.face.specs.Labels.{label_told, place_in, place_filled, cell_told};
@@ -10,10 +9,10 @@ use refusal::{Cell, Refusal, Room};
 
 // A cell's label at the front of what C lends.
 fn put_label(out: &mut [u8], c: Cell) -> RefusalTold
-    ensures { filled result out.new ≡ fill Answered (label_of c) out.old }
+    ensures { filled result out.new ≡ fill (label_of c) out.old }
 {
     if out.len() < label::LABEL_WIDTH {
-        return face::told(Refusal::NoRoom(Room::Output));
+        return Refusal::NoRoom(Room::Output).into();
     }
     let text = label::to_bech32m(c);
     words::bytes::copy_front(out, &text, label::LABEL_WIDTH);
@@ -23,10 +22,9 @@ fn put_label(out: &mut [u8], c: Cell) -> RefusalTold
 pub fn tishkolan_cell_to_bech32m(cell: &[u8], out: &mut [u8]) -> RefusalTold
     ensures { filled result out.new ≡ label_told cell.now out.old }
 {
-    let given = cell::from_bytes(cell);
-    match given {
-        Err(r) => face::told(r),
+    match cell::from_bytes(cell) {
         Ok(c) => put_label(out, c),
+        Err(r) => r.into(),
     }
 }
 

@@ -25,7 +25,7 @@ pub fn tishkolan_astar_with_limit(
         let lent = buffers known_workspace.old waiting_workspace.old out.old in
         search_told result known_workspace.new waiting_workspace.new out.new ≡ of_searched (search_in asked lent) }
 {
-    face::searches::of_search(astar::call::astar_with_limit(
+    astar::call::astar_with_limit(
         start,
         goal,
         known,
@@ -37,7 +37,8 @@ pub fn tishkolan_astar_with_limit(
         known_workspace,
         waiting_workspace,
         out,
-    ))
+    )
+    .into()
 }
 
 // The same with a limit of 100,000.
@@ -57,7 +58,7 @@ pub fn tishkolan_astar(
         let lent = buffers known_workspace.old waiting_workspace.old out.old in
         search_told result known_workspace.new waiting_workspace.new out.new ≡ of_searched (search_in asked lent) }
 {
-    face::searches::of_search(astar::call::astar(
+    astar::call::astar(
         start,
         goal,
         known,
@@ -68,5 +69,6 @@ pub fn tishkolan_astar(
         known_workspace,
         waiting_workspace,
         out,
-    ))
+    )
+    .into()
 }

@@ -31,5 +31,5 @@ pub fn tishkolan_survey_write(
     ensures { changed result out.new
         ≡ saying of_write (write_of flags.now flags_count values.now values_count out.old) }
 {
-    face::surveys::of_write(survey::write(flags, flags_count, values, values_count, out))
+    survey::write(flags, flags_count, values, values_count, out).into()
 }
