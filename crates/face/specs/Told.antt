@@ -64,7 +64,7 @@ truth_number false = pos 0
 
 -- whether something is so, or the refusal
 abbrev pub of_truth : Result Bool Refusal → NumberTold
-of_truth (Ok yes) = number_told (truth_number yes)
+of_truth (Ok b) = number_told (truth_number b)
 of_truth (Err r) = no_number r
 
 -- an answer that is 64 bits
