@@ -8,6 +8,7 @@ use aggregate::Aggregation;
 use face::{BitsTold, CountTold};
 use refusal::Refusal;
 
+#[tactic(auto, unfolding(face::specs::Aggregates::aggregation_of))]
 fn aggregation_of(how: u32) -> Option<Aggregation>
     ensures { result ≡ aggregation_of how }
 {
@@ -23,6 +24,7 @@ fn aggregation_of(how: u32) -> Option<Aggregation>
 }
 
 // Why there is no aggregate of none: list and layer are tested all the same.
+#[tactic(auto, unfolding(face::specs::Aggregates::no_aggregation))]
 fn no_aggregation(table: &[u8], count: usize, cells: &[u8]) -> Refusal
     ensures { result ≡ no_aggregation table.now count cells.now }
 {
@@ -36,6 +38,7 @@ fn no_aggregation(table: &[u8], count: usize, cells: &[u8]) -> Refusal
 }
 
 // The aggregate of what is kept of the cells of a list.
+#[tactic(auto, unfolding(face::specs::Aggregates::aggregate_told))]
 pub fn tishkolan_values_aggregate(table: &[u8], count: usize, cells: &[u8], how: u32) -> BitsTold
     ensures { result ≡ aggregate_told table.now count cells.now how }
 {
@@ -47,6 +50,7 @@ pub fn tishkolan_values_aggregate(table: &[u8], count: usize, cells: &[u8], how:
 }
 
 // The fine layer is tested all the same.
+#[tactic(auto, unfolding(face::specs::Aggregates::no_rollup))]
 fn no_rollup(fine: &[u8], count: usize) -> Refusal
     ensures { result ≡ no_rollup fine.now count }
 {
@@ -57,6 +61,7 @@ fn no_rollup(fine: &[u8], count: usize) -> Refusal
     }
 }
 
+#[tactic(auto, unfolding(face::specs::Aggregates::rollup_asked))]
 fn rollup_asked(fine: &[u8], count: usize, how: u32, coarse: &mut [u8]) -> Result<usize, Refusal>
     ensures { changed result coarse.new ≡ rollup_asked fine.now count how coarse.old }
 {

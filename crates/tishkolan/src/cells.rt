@@ -13,6 +13,7 @@ use refusal::{Cell, Refusal, Room};
 use std::cmp::Ordering;
 
 // The two cells that C hands over, the first read first.
+#[tactic(auto, unfolding(cell::specs::Bytes::from_bytes_of))]
 fn both(first: &[u8], second: &[u8]) -> Result<(Cell, Cell), Refusal>
     ensures { result ≡ pair_of first.now second.now }
 {
@@ -36,6 +37,7 @@ pub fn put_cell(out: &mut [u8], a: Result<Cell, Refusal>) -> RefusalTold
 }
 
 // The cell of these fields.
+#[tactic(auto, unfolding(face::specs::Cells::new_told))]
 pub fn tishkolan_cell_new(
     frame: u8,
     resolution: u8,
@@ -52,6 +54,7 @@ pub fn tishkolan_cell_new(
 }
 
 // The plain cell at a place.
+#[tactic(auto, unfolding(face::specs::Cells::new_told))]
 pub fn tishkolan_cell_from_coords(
     frame: u8,
     resolution: u8,
@@ -65,12 +68,14 @@ pub fn tishkolan_cell_from_coords(
     put_cell(out, cell::from_coords(frame, resolution, x, y, z))
 }
 
+#[tactic(auto, unfolding(face::specs::Cells::parent_told))]
 pub fn tishkolan_cell_parent(cell: &[u8], out: &mut [u8]) -> RefusalTold
     ensures { filled result out.new ≡ parent_told cell.now out.old }
 {
     put_cell(out, cell::from_bytes(cell).and_then(cell::parent))
 }
 
+#[tactic(auto, unfolding(face::specs::Cells::ancestor_told))]
 pub fn tishkolan_cell_ancestor(cell: &[u8], resolution: u8, out: &mut [u8]) -> RefusalTold
     ensures { filled result out.new ≡ ancestor_told cell.now resolution out.old }
 {
@@ -113,6 +118,7 @@ fn no_fields(r: Refusal) -> FieldsTold
     }
 }
 
+#[tactic(auto, unfolding(face::specs::Cells::fields_told))]
 pub fn tishkolan_cell_fields(cell: &[u8]) -> FieldsTold
     ensures { result ≡ fields_told cell.now }
 {
@@ -123,6 +129,7 @@ pub fn tishkolan_cell_fields(cell: &[u8]) -> FieldsTold
 }
 
 // The place that a cell names, tested.
+#[tactic(auto, unfolding(face::specs::Cells::lattice_coord_told))]
 pub fn tishkolan_cell_lattice_coord(cell: &[u8]) -> CoordTold
     ensures { result ≡ lattice_coord_told cell.now }
 {
@@ -130,6 +137,7 @@ pub fn tishkolan_cell_lattice_coord(cell: &[u8]) -> CoordTold
 }
 
 // 1 for true, 0 for false.
+#[tactic(auto, unfolding(face::specs::Cells::is_plain_told))]
 pub fn tishkolan_cell_is_plain(cell: &[u8]) -> NumberTold
     ensures { result ≡ is_plain_told cell.now }
 {
@@ -147,6 +155,7 @@ fn order_number(o: Ordering) -> i32
 }
 
 // -1, 0 or 1 as the first is below, the same as or above the second.
+#[tactic(auto, unfolding(face::specs::Cells::compare_told))]
 pub fn tishkolan_cell_compare(first: &[u8], second: &[u8]) -> NumberTold
     ensures { result ≡ compare_told first.now second.now }
 {
@@ -156,6 +165,7 @@ pub fn tishkolan_cell_compare(first: &[u8], second: &[u8]) -> NumberTold
 }
 
 // That nothing lies between is told as an answer.
+#[tactic(auto, unfolding(face::specs::Cells::between_told))]
 pub fn tishkolan_cell_between(first: &[u8], second: &[u8]) -> RefusalTold
     ensures { result ≡ between_told first.now second.now }
 {
@@ -165,6 +175,7 @@ pub fn tishkolan_cell_between(first: &[u8], second: &[u8]) -> RefusalTold
     }
 }
 
+#[tactic(auto, unfolding(face::specs::Cells::distance_told))]
 pub fn tishkolan_cell_distance(first: &[u8], second: &[u8]) -> BitsTold
     ensures { result ≡ distance_told first.now second.now }
 {
@@ -173,6 +184,7 @@ pub fn tishkolan_cell_distance(first: &[u8], second: &[u8]) -> BitsTold
         .into()
 }
 
+#[tactic(auto, unfolding(face::specs::Cells::manhattan_told))]
 pub fn tishkolan_cell_manhattan_distance(first: &[u8], second: &[u8]) -> NumberTold
     ensures { result ≡ manhattan_told first.now second.now }
 {
@@ -195,6 +207,7 @@ fn put_cells(out: &mut [u8], cells: &[Cell]) -> RefusalTold
 }
 
 // The 14 neighbours, in the table's order.
+#[tactic(auto, unfolding(face::specs::Cells::neighbors_told))]
 pub fn tishkolan_cell_neighbors(cell: &[u8], out: &mut [u8]) -> RefusalTold
     ensures { filled result out.new ≡ neighbors_told cell.now out.old }
 {
@@ -205,6 +218,7 @@ pub fn tishkolan_cell_neighbors(cell: &[u8], out: &mut [u8]) -> RefusalTold
 }
 
 // The 8 children, in the table's order.
+#[tactic(auto, unfolding(face::specs::Cells::children_told))]
 pub fn tishkolan_cell_children(cell: &[u8], out: &mut [u8]) -> RefusalTold
     ensures { filled result out.new ≡ children_told cell.now out.old }
 {

@@ -19,6 +19,7 @@ fn put_label(out: &mut [u8], c: Cell) -> RefusalTold
     face::answered()
 }
 
+#[tactic(auto, unfolding(face::specs::Labels::label_told))]
 pub fn tishkolan_cell_to_bech32m(cell: &[u8], out: &mut [u8]) -> RefusalTold
     ensures { filled result out.new ≡ label_told cell.now out.old }
 {
@@ -39,6 +40,7 @@ fn place_in(a: Result<Cell, Refusal>) -> u64
 }
 
 // The cell of a label, with the place of the first mistake.
+#[tactic(auto, unfolding(face::specs::Labels::cell_told))]
 pub fn tishkolan_cell_from_bech32m(label: &[u8], out: &mut [u8]) -> PlaceTold
     ensures { place_filled result out.new ≡ cell_told label.now out.old }
 {

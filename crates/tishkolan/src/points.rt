@@ -71,6 +71,7 @@ fn put_places(out: &mut [i32], places: &[Coord]) -> RefusalTold
 }
 
 // The 14 neighbours, refused by their parity, their range and at last for want of room.
+#[tactic(auto, unfolding(face::specs::Points::neighbors_told))]
 pub fn tishkolan_lattice_neighbors(x: i32, y: i32, z: i32, out: &mut [i32]) -> RefusalTold
     ensures { filled result out.new ≡ neighbors_told (at x y z) out.old }
 {
@@ -81,6 +82,7 @@ pub fn tishkolan_lattice_neighbors(x: i32, y: i32, z: i32, out: &mut [i32]) -> R
 }
 
 // The 8 children, refused in the same order.
+#[tactic(auto, unfolding(face::specs::Points::children_told))]
 pub fn tishkolan_lattice_children(x: i32, y: i32, z: i32, out: &mut [i32]) -> RefusalTold
     ensures { filled result out.new ≡ children_told (at x y z) out.old }
 {
