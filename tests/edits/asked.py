@@ -13,6 +13,7 @@ import threading
 import time
 
 ITEM = re.compile(r'^ *(?:pub )?(?:extern "C" )?fn (\w+)|^(?:pub )?(?:const|struct|enum) ', re.M)
+IMPL = re.compile(r'^impl(?:<[^{]*?>)? ([^{]+?)(?: for ([^{]+?))? \{$', re.M)
 TOO_LONG = 600  # seconds: a wrong program can lead the prover's own search astray
 
 TOP = os.path.abspath(os.path.join(os.path.dirname(os.path.abspath(__file__)), '..', '..'))
@@ -29,6 +30,21 @@ def needs():
     return out
 
 
+def spoken(kind):
+    """a type as it stands in the name that the prover prints for a function of an impl: `Result<i32, Refusal>` is ResultI32Refusal"""
+    return ''.join(word[:1].upper() + word[1:] for word in re.findall(r'\w+', kind))
+
+
+def impl_at(text, place):
+    """the impl in whose text this place stands, as the prover names it: of a trait the type, then the trait with its parameters; else the type; None outside of any"""
+    for m in IMPL.finditer(text):
+        end = text.find('\n}', m.end())
+        if m.start() <= place and (end < 0 or place < end):
+            first, second = m.group(1), m.group(2)
+            return spoken(second) + spoken(first) if second else spoken(first)
+    return None
+
+
 def function_at(crate, file, text, place):
     """the function in whose text this place of a source file stands, by the name that the prover prints; None if it is a constant or a type"""
     name = None
@@ -37,7 +53,8 @@ def function_at(crate, file, text, place):
             break
         name = m.group(1)
     modules = [m for m in file[len('src/'):-len('.rt')].split('/') if m not in ('lib', 'main', 'mod')]
-    return name and '::'.join([crate, *modules, name])
+    within = impl_at(text, place)
+    return name and '::'.join([crate, *modules, *([within] if within else []), name])
 
 
 def called_by(crate):

@@ -5,7 +5,8 @@ use mathlib.Core.Path.{◌≡◌, refl}
 use lib.IntN.{pos, negsuc}
 use lib.Ieee.{fin, binary64, of_bits}
 use Rattle.refusal.specs.declared.Refusal.TheVariants.{CoordOverflow, InvalidParity}
-use Rattle.lattice.specs.Lattice.{at, origin, is_lattice_point, parity_of, manhattan}
+use Rattle.lattice.specs.Lattice.{at, is_lattice_point, parity_of, manhattan}
+use Rattle.lattice.proofs.Origin.{origin}
 use Rattle.distance.specs.Distance.{differences_fit, squared_distance, distance_of}
 use Rattle.distance.specs.Terms.{both_tests}
 use Rattle.distance.specs.Nearest.{NearestRoot}

@@ -8,7 +8,8 @@ use lib.IntN.{ℤ, pos, negsuc, ◌+ℤ◌, ◌-ℤ◌, neg_ℤ, neg_ℤ-+ℤ, +
 use lib.Ieee.{Float, binary64, of_bits, of_int, add, mul}
 use Rattle.refusal.specs.declared.Coord.{Coord}
 use Rattle.lattice.specs.declared.Parity.{Parity}
-use Rattle.lattice.specs.Lattice.{at, origin, moved, within, parity_of, neighbor_steps, neighbor_places}
+use Rattle.lattice.specs.Lattice.{at, moved, within, parity_of, neighbor_steps, neighbor_places}
+use Rattle.lattice.proofs.Origin.{origin}
 use Rattle.lattice.proofs.Laws.{parity-point, point-parity, neighbors-are-points}
 use Rattle.general.specs.Each.{Each}
 use Rattle.general.proofs.Lists.{at-member}

@@ -1,5 +1,5 @@
 -- A test, what is answered where it speaks against going on, and the rest: a chain of these reads from top to bottom, in the order of a document's refusals. Definitions only.
-use Rattle.std.specs.Prelude.{Bool, cond, Result, Ok, Err}
+use Rattle.std.specs.Prelude.{Bool, cond}
 
 -- refused where the test holds
 abbrev pub refuse_if : {A : Type 0} → Bool → A → A → A
@@ -8,8 +8,3 @@ refuse_if test refusal rest = cond test refusal rest
 -- refused where the test does not hold
 abbrev pub refuse_unless : {A : Type 0} → Bool → A → A → A
 refuse_unless test refusal rest = cond test rest refusal
-
--- whether there is an answer, whatever it is: the refusal alone is kept
-abbrev pub whether : {A E : Type 0} → Result A E → Result (Unit {0}) E
-whether (Ok x) = Ok tt
-whether (Err r) = Err r

@@ -11,3 +11,4 @@ pub mod OneAnswer
 pub mod OneParent
 pub mod OddCount
 pub mod Split
+pub mod Origin

@@ -14,7 +14,8 @@ use Rattle.refusal.specs.declared.Refusal.{Refusal}
 use Rattle.refusal.specs.declared.Refusal.TheVariants.{InvalidParity}
 use Rattle.lattice.specs.declared.Parity.{Parity}
 use Rattle.lattice.specs.declared.Parity.TheVariants.{Even, Odd}
-use Rattle.lattice.specs.Lattice.{at, origin, is_odd, is_lattice_point, parity_of, moved, neighbor_steps, doubled, child_steps, half, raised, alone, differing_axis, take_one_off, halves, parent_of, apart, manhattan}
+use Rattle.lattice.specs.Lattice.{at, is_odd, is_lattice_point, parity_of, moved, neighbor_steps, doubled, child_steps, half, raised, alone, differing_axis, take_one_off, halves, parent_of, apart, manhattan}
+use Rattle.lattice.proofs.Origin.{origin}
 use Rattle.lattice.proofs.Split.{parent_by}
 use Rattle.lattice.proofs.SignsLaws.{either, either-false, agree-turned, odd-sum, odd-double, half-double, apart-even, odd-halfway}
 use Rattle.lattice.specs.Middle.{middle}

@@ -18,7 +18,8 @@ use borrow.Author.Tests.{eqb-true, eqb-false}
 use Rattle.refusal.specs.declared.Coord.{Coord}
 use Rattle.lattice.specs.declared.Parity.{Parity}
 use Rattle.lattice.specs.declared.Parity.TheVariants.{Even, Odd}
-use Rattle.lattice.specs.Lattice.{at, origin, is_odd, is_lattice_point, parity_of, moved, doubled, child_steps, child_places, has_child_room, children_of, half, halves, raised, alone, parent_of}
+use Rattle.lattice.specs.Lattice.{at, is_odd, is_lattice_point, parity_of, moved, doubled, child_steps, child_places, has_child_room, children_of, half, halves, raised, alone, parent_of}
+use Rattle.lattice.proofs.Origin.{origin}
 use Rattle.lattice.proofs.Split.{children_in, children_by, parent_by}
 use Rattle.lattice.proofs.SignsLaws.{sub_cases}
 use Rattle.general.proofs.Lists.{has, placed}

@@ -1,7 +1,6 @@
 -- The ends of the ranges, by computation. The known points of the scope document stand in one table, in the top crate.
 use Rattle.std.specs.Prelude.{Result, Ok, Err}
 use Rattle.refusal.specs.declared.Refusal.{Refusal}
-use Rattle.general.specs.Refuse.{whether}
 use mathlib.Core.List.{List, [], ◌∷◌, map}
 use mathlib.Core.Path.{◌≡◌, refl}
 use lib.IntN.{pos, negsuc}
@@ -11,8 +10,14 @@ use Rattle.refusal.specs.declared.Coord.{Coord}
 use Rattle.lattice.specs.declared.Axis.{Axis}
 use Rattle.lattice.specs.declared.Axis.TheVariants.{X, Z, Neither}
 use Rattle.lattice.specs.declared.Parity.TheVariants.{Even}
-use Rattle.lattice.specs.Lattice.{at, origin, is_odd, is_lattice_point, parity_of, child_steps, child_places, has_child_room, children_of, halves, differing_axis, even_parent, parent_of, has_neighbor_room, neighbor_places, neighbor_steps, neighbors_of, manhattan, manhattan_of}
+use Rattle.lattice.specs.Lattice.{at, is_odd, is_lattice_point, parity_of, child_steps, child_places, has_child_room, children_of, halves, differing_axis, even_parent, parent_of, has_neighbor_room, neighbor_places, neighbor_steps, neighbors_of, manhattan, manhattan_of}
+use Rattle.lattice.proofs.Origin.{origin}
 use Rattle.lattice.specs.Terms.{divided_by_two, counted_parent}
+
+-- whether there is an answer, whatever it is
+abbrev whether : {A : Type 0} → Result A Refusal → Result (Unit {0}) Refusal
+whether (Ok x) = Ok tt
+whether (Err r) = Err r
 
 abbrev around-of : Coord → Result (Unit {0}) Refusal
 around-of c = whether (neighbors_of c)

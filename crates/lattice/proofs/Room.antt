@@ -6,7 +6,8 @@ use Prim.Native.Nat.{ℕ, zero, suc}
 use lib.IntN.{◌+ℤ◌, +ℤ_idr}
 use lib.ListN.{get_or}
 use Rattle.refusal.specs.declared.Coord.{Coord}
-use Rattle.lattice.specs.Lattice.{at, origin, moved, doubled, Fitting, neighbor_steps, has_neighbor_room, child_steps, has_child_room, halves}
+use Rattle.lattice.specs.Lattice.{at, moved, doubled, Fitting, neighbor_steps, has_neighbor_room, child_steps, has_child_room, halves}
+use Rattle.lattice.proofs.Origin.{origin}
 use Rattle.general.proofs.Tests.{both}
 use Rattle.general.proofs.Lists.{passes}
 use Rattle.lattice.proofs.Fitting.{short, childlike, moved-fits, doubled_fits}

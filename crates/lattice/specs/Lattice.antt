@@ -18,10 +18,6 @@ use Rattle.general.specs.Refuse.{refuse_unless}
 abbrev pub at : ℤ → ℤ → ℤ → Coord
 at x y z = record { x = x; y = y; z = z }
 
--- the place with all three zero
-abbrev pub origin : Coord
-origin = at (pos 0) (pos 0) (pos 0)
-
 -- each coordinate fits 32 bits
 pub record Fitting (c : Coord) : Type 0 where
   pub in-x : SFits w32 c.x

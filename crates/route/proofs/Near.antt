@@ -11,7 +11,8 @@ use lib.Dec.{T, leb}
 use lib.IntN.{ℤ, pos, negsuc, nat_abs, ◌+ℤ◌, ◌-ℤ◌, +ℤ_comm, +ℤ-neg_ℤ_cancel, -ℤ-+ℤ_cancel}
 use lib.ListN.{get_or}
 use Rattle.refusal.specs.declared.Coord.{Coord}
-use Rattle.lattice.specs.Lattice.{at, origin, moved, neighbor_steps, neighbor_places}
+use Rattle.lattice.specs.Lattice.{at, moved, neighbor_steps, neighbor_places}
+use Rattle.lattice.proofs.Origin.{origin}
 use Rattle.general.proofs.Tests.{both}
 use Rattle.general.proofs.Lists.{has, placed, by-test}
 use Rattle.distance.specs.Inner.Differences.{difference}

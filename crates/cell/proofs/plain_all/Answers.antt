@@ -1,6 +1,6 @@
 use Rattle.std.proofs.Common.{arith, rules, refl}
 use lib.ListN.{length-replicate}
-use Rattle.lattice.specs.Lattice.{origin}
+use Rattle.lattice.proofs.Origin.{origin}
 use Rattle.cell.proofs.Filled.{filled_more, filled-all}
 use Rattle.cell.proofs.plain_all.Goals as goal
 

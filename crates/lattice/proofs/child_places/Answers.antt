@@ -4,7 +4,8 @@ use mathlib.Core.Path.{sym, subst, ◌∙◌, ap}
 use mathlib.Core.List.{[], ◌∷◌, map}
 use lib.ListN.{get_or}
 use Rattle.refusal.specs.declared.Coord.{Coord}
-use Rattle.lattice.specs.Lattice.{origin, moved, Fitting, child_steps, child_places}
+use Rattle.lattice.specs.Lattice.{moved, Fitting, child_steps, child_places}
+use Rattle.lattice.proofs.Origin.{origin}
 use Rattle.lattice.proofs.Room.{twice, lower}
 use Rattle.lattice.proofs.child_places.Goals as goal
 use Rattle.lattice.proofs.child_places.Goals.{After-doubled-twice}

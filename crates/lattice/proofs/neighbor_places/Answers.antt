@@ -2,7 +2,8 @@
 use Prim.Native.Nat.{ℕ}
 use mathlib.Core.List.{[], ◌∷◌}
 use lib.ListN.{get_or}
-use Rattle.lattice.specs.Lattice.{origin, moved, Fitting, neighbor_steps, neighbor_places}
+use Rattle.lattice.specs.Lattice.{moved, Fitting, neighbor_steps, neighbor_places}
+use Rattle.lattice.proofs.Origin.{origin}
 use Rattle.lattice.proofs.Room.{near}
 use Rattle.lattice.proofs.neighbor_places.Goals as goal
 use Rattle.lattice.proofs.neighbor_places.Goals.{Start}
