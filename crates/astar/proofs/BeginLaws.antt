@@ -1,4 +1,5 @@
 -- How a search begins: at first no cell is known and no entry waits, then the start is known and its entry waits. What the bytes hold then is the definition's beginning.
+use Rattle.std.specs.Prelude.{Ok}
 use mathlib.Core.Path.{◌≡◌, refl, ap, ◌∙◌}
 use mathlib.Core.Bool.{false}
 use mathlib.Core.List.{List, [], ◌∷◌}
@@ -6,7 +7,6 @@ use Prim.Native.Nat.{ℕ, ◌*◌, ◌≤◌, ◌<◌}
 use native.Mathlib.Omega.{arith}
 use lib.ListN.{length, replicate, drop}
 use Rattle.refusal.specs.declared.Cell.{Cell}
-use Rattle.refusal.specs.declared.Refusal.{Refusal}
 use Rattle.refusal.specs.Refusals.{raw_of}
 use Rattle.words.specs.Word.{Bytes}
 use Rattle.words.proofs.Laws.{bytes_drop, bytes-append, bytes-zeros}
@@ -30,27 +30,17 @@ use Rattle.expansion.specs.declared.Plan.{Plan}
 use Rattle.expansion.specs.declared.Sizes.{Sizes}
 use Rattle.expansion.specs.declared.Step.TheVariants as step
 use Rattle.expansion.specs.Inner.State.{entries_in, problem_of, HoldsSearch, StepMeets}
-use Rattle.expansion.specs.Inner.Bytes.{sizes_of, entry_to, Rooms}
+use Rattle.expansion.specs.Inner.Bytes.{sizes_of, entry_to, Rooms, going_in}
 use Rattle.expansion.proofs.BytesKept.{length-append-in}
 use Rattle.expansion.proofs.StateLaws.{Entered, entered-entries, entered-good}
 use Rattle.expansion.proofs.Simulates.{Simulates, bytes-appended}
 use Rattle.astar.specs.Inner.Bytes.{begun_in, begin_in}
 
--- ---- what the code wrote
+-- ---- what the code writes
 
 module _ (p : Plan) (w h : List ℕ) where
   abbrev told : OrRefused ℕ
   told = distance_bits (distance_cells p.start p.goal)
-
-  pub begin-stopped : (r : Refusal) → refused r ≡ told → (w, h, step.Stopped r) ≡ begin_in p w h
-  unfolding begin_in
-  begin-stopped r e = ap (begun_in p w h) e
-
-  pub begin-going : (w₁ w' h' : List ℕ) (x : ℕ) → is x ≡ told → w₁ ≡ clear_in w p.known → w' ≡ append_in w₁ p.known 0 p.start 0 0 → h' ≡ push_in h 0 (entry_to x p.start 0) → (w', h', step.Going (sizes_of 1 1 0)) ≡ begin_in p w h
-  unfolding begin_in
-  begin-going w₁ w' h' x e cleared added pushes =
-      let rows = added ∙ ap (λ (m : List ℕ). append_in m p.known 0 p.start 0 0) cleared in
-      (λ i. (rows i, pushes i, step.Going (sizes_of 1 1 0))) ∙ ap (begun_in p w h) e
 
   -- the buffers keep their lengths
   pub begin-lengths : Rooms p.known p.waiting w h → let x = begin_in p w h in (length x.0 ≡ length w) × (length x.1 ≡ length h)
@@ -63,22 +53,13 @@ module _ (p : Plan) (w h : List ℕ) where
           (length-append-in (clear_in w p.known) p.known 0 p.start 0 0 ∙ (emptied w p.known rooms.roomy).length-kept, length_push h 0 (entry_to x p.start 0))
 
   -- it knows its start, which waits
-  pub begin-sizes : (z : Sizes) → (begin_in p w h).2 ≡ step.Going z → z ≡ sizes_of 1 1 0
+  pub begin-sizes : (z : Sizes) → (begin_in p w h).2 ≡ Ok z → z ≡ sizes_of 1 1 0
   unfolding begin_in
   begin-sizes = by-told told
     where
-      by-told : (t : OrRefused ℕ) → (z : Sizes) → (begun_in p w h t).2 ≡ step.Going z → z ≡ sizes_of 1 1 0
+      by-told : (t : OrRefused ℕ) → (z : Sizes) → (begun_in p w h t).2 ≡ Ok z → z ≡ sizes_of 1 1 0
       by-told (refused r) z e = absurd (let n : ◌≡◌ {A = ℕ} 0 1 = cc in omega arith)
       by-told (is x) z e = cc
-
-  -- and is not at its end
-  pub begin-unarrived : (z : Sizes) → (begin_in p w h).2 ≡ step.Arrived z → ⊥
-  unfolding begin_in
-  begin-unarrived = by-told told
-    where
-      by-told : (t : OrRefused ℕ) → (z : Sizes) → (begun_in p w h t).2 ≡ step.Arrived z → ⊥
-      by-told (refused r) z e = let n : ◌≡◌ {A = ℕ} 0 1 = cc in omega arith
-      by-told (is x) z e = let n : ◌≡◌ {A = ℕ} 0 1 = cc in omega arith
 
 -- ---- bytes stay bytes
 
@@ -135,7 +116,7 @@ module _ (p : Plan) (flags : List ℕ) (count : ℕ) where
     unfolding entries_in sorted_keys ascending_keys insert
     entries-are = entered-entries p w h w' h' none-known 1 x 0 (raw_of (cell_in w' p.known 0)) p.start began
 
-    begin-meets : StepMeets P p w₀ h w' h' (step.Going (sizes_of 1 1 0)) (begin P (is x))
+    begin-meets : StepMeets P p w₀ h w' h' (Ok (step.Going (sizes_of 1 1 0))) (begin P (is x))
     unfolding plan_of
     begin-meets =
         record {
@@ -146,7 +127,7 @@ module _ (p : Plan) (flags : List ℕ) (count : ℕ) where
         }
 
   module _ (w h : List ℕ) (rooms : Rooms p.known p.waiting w h) (bytes : Bytes w) (heap-bytes : Bytes h) (words : Words p.start) where
-    begun-simulates : (t : OrRefused ℕ) → t ≡ told p w h → Simulates p flags count w h (begun_in p w h t) (begin P t)
+    begun-simulates : (t : OrRefused ℕ) → t ≡ told p w h → Simulates p flags count w h (going_in (begun_in p w h t)) (begin P t)
     begun-simulates (refused r) e = record { meets = record { same = refl; good = tt; workspace-length = refl; heap-length = refl }; bytes = bytes; heap-bytes = heap-bytes }
     begun-simulates (is x) e =
         let w₁ = clear_in w p.known in
@@ -168,6 +149,6 @@ module _ (p : Plan) (flags : List ℕ) (count : ℕ) where
           heap-bytes = bytes-push h 0 (entry_to x p.start 0) heap-bytes;
         }
 
-    pub begin-simulates : Simulates p flags count w h (begin_in p w h) (begin P (distance_bits (distance_cells p.start p.goal)))
+    pub begin-simulates : Simulates p flags count w h (going_in (begin_in p w h)) (begin P (distance_bits (distance_cells p.start p.goal)))
     unfolding begin_in
     begin-simulates = begun-simulates (distance_bits (distance_cells p.start p.goal)) refl

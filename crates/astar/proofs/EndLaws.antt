@@ -1,5 +1,5 @@
 -- How a search ends: what its last step shows is the definition's result, which is the same after however many pops.
-use Rattle.std.specs.Prelude.{Err, Option, Some, None}
+use Rattle.std.specs.Prelude.{Err, Option, Some, None, Result, Ok}
 use mathlib.Core.Path.{◌≡◌, refl, sym, ap, ◌∙◌}
 use mathlib.Core.Bool.{true, true≢false}
 use mathlib.Core.List.{List, []}
@@ -8,15 +8,12 @@ use Prim.Native.Nat.{ℕ, ◌≤◌, ◌<◌}
 use native.Mathlib.Omega.{arith}
 use Rattle.refusal.specs.declared.Cell.{Cell}
 use Rattle.refusal.specs.declared.Refusal.{Refusal}
-use Rattle.refusal.specs.declared.Refusal.TheVariants.{BadWorkspace}
 use Rattle.refusal.specs.Refusals.{raw_of}
 use Rattle.words.specs.Word.{Bytes}
 use Rattle.cell.specs.Cell.{distance_cells}
 use Rattle.cell.specs.Terms.{Words}
-use Rattle.general.specs.Changed.{changed}
 use Rattle.known.specs.Inner.Known.{cell_in}
 use Rattle.known.specs.Inner.Seek.{find_in}
-use Rattle.known.proofs.Seek.{found_below}
 use Rattle.search_rows.specs.Inner.Rows.{g_in, row_in, rows_in, Looked}
 use Rattle.search_rows.proofs.Looked.{looked-in}
 use Rattle.search.specs.Search.{Problem, OrRefused, KnownRow, SearchResult, done, found, find, is_known, g_of, traced, arrived, run, begin}
@@ -33,24 +30,6 @@ use Rattle.astar.specs.Inner.Answer.{way_to, shown, Ended}
 use Rattle.astar.specs.Inner.Bytes.{route_in, goal_in, end_in}
 use Rattle.astar.proofs.WayLaws.{route-answered, way-back}
 
--- ---- what the code answered
-
-module _ (p : Plan) (w l : List ℕ) {r : Step} where
-  pub end-stopped : (q : Refusal) → r ≡ steps.Stopped q → changed (Err q) l ≡ end_in p w r l
-  end-stopped q e = ap (λ (s : Step). end_in p w s l) (sym e)
-
-  pub end-going : (z : Sizes) → r ≡ steps.Going z → changed (Err BadWorkspace) l ≡ end_in p w r l
-  end-going z e = ap (λ (s : Step). end_in p w s l) (sym e)
-
-  -- the goal was looked up
-  module _ (z : Sizes) (e : r ≡ steps.Arrived z) {x : Option ℕ} (looked : x ≡ find_in w p.known z.known p.goal) where
-    pub end-looked : {y : Option ℕ} → x ≡ y → goal_in p w z l y ≡ end_in p w r l
-    end-looked same = ap (goal_in p w z l) (sym same ∙ looked) ∙ ap (λ (s : Step). end_in p w s l) (sym e)
-
-    -- a record that is found is a known one
-    pub end-under : (i : ℕ) → x ≡ Some i → i < z.known
-    end-under i same = found_below w p.known z.known p.goal x i looked same
-
 -- ---- a search that has come to its goal
 
 module _ (p : Plan) (flags w : List ℕ) (count : ℕ) (z : Sizes) where
@@ -58,7 +37,7 @@ module _ (p : Plan) (flags w : List ℕ) (count : ℕ) (z : Sizes) where
   rows = rows_in w p.known z.known
 
   arrived-at : (i : ℕ) → cell_in w p.known i ≡ p.goal → find (raw_of p.goal) rows ≡ some (row_in w p.known i)
-      → found (way_to p w z i) (row_in w p.known i).g z.count ≡ shown (problem_of p flags count) p w (steps.Arrived z)
+      → found (way_to p w z i) (row_in w p.known i).g z.count ≡ shown (problem_of p flags count) p w (Ok (steps.Arrived z))
   unfolding arrived plan_of
   arrived-at i goal row = λ j. found (traced (raw_of p.start) z.count rows (raw_of (goal j)) []) (g_of (sym row j)) z.count
 
@@ -68,32 +47,32 @@ never-unknown known nowhere = true≢false (sym known ∙ ap is_known nowhere)
 
 -- ---- the last step
 
-abbrev Last : Step → Type 0
-Last r = (z : Sizes) → r ≡ steps.Going z → ⊥
+abbrev Last : Result Step Refusal → Type 0
+Last r = (z : Sizes) → r ≡ Ok (steps.Going z) → ⊥
 
-last-ended : (p : Plan) (w h : List ℕ) (r : Step) → GoodStep p w h r → Last r → Ended p w r
-last-ended p w h (steps.Going z) good last = last z refl
-last-ended p w h (steps.Stopped q) good last = tt
-last-ended p w h (steps.Arrived z) good last = (good.0.rows, good.1)
+last-ended : (p : Plan) (w h : List ℕ) (r : Result Step Refusal) → GoodStep p w h r → Last r → Ended p w r
+last-ended p w h (Ok (steps.Going z)) good last = last z refl
+last-ended p w h (Err q) good last = tt
+last-ended p w h (Ok (steps.Arrived z)) good last = (good.0.rows, good.1)
 
 -- the entries that wait are no part of a result
-last-shown : (P : Problem) (p : Plan) (w h : List ℕ) (r : Step) → Last r → flow_in P p w h r ≡ done (shown P p w r)
+last-shown : (P : Problem) (p : Plan) (w h : List ℕ) (r : Result Step Refusal) → Last r → flow_in P p w h r ≡ done (shown P p w r)
 unfolding arrived
-last-shown P p w h (steps.Going z) last = absurd (last z refl)
-last-shown P p w h (steps.Stopped q) last = refl
-last-shown P p w h (steps.Arrived z) last = refl
+last-shown P p w h (Ok (steps.Going z)) last = absurd (last z refl)
+last-shown P p w h (Err q) last = refl
+last-shown P p w h (Ok (steps.Arrived z)) last = refl
 
 -- ---- the end
 
 -- where a search has ended, the bytes' end is the definition's
-pub end-shown : (p : Plan) (flags w : List ℕ) (count : ℕ) (r : Step) (l : List ℕ) → Ended p w r → Bytes w → Words p.goal → end_in p w r l ≡ answered_in (shown (problem_of p flags count) p w r) l
+pub end-shown : (p : Plan) (flags w : List ℕ) (count : ℕ) (r : Result Step Refusal) (l : List ℕ) → Ended p w r → Bytes w → Words p.goal → end_in p w r l ≡ answered_in (shown (problem_of p flags count) p w r) l
 unfolding row_in
-end-shown p flags w count (steps.Going z) l ended bytes words = absurd ended
-end-shown p flags w count (steps.Stopped q) l ended bytes words = refl
-end-shown p flags w count (steps.Arrived z) l ended bytes words =
+end-shown p flags w count (Ok (steps.Going z)) l ended bytes words = absurd ended
+end-shown p flags w count (Err q) l ended bytes words = refl
+end-shown p flags w count (Ok (steps.Arrived z)) l ended bytes words =
     by-found (find_in w p.known z.known p.goal) (looked-in w p.known z.known p.goal ended.0 bytes words)
   where
-    by-found : (x : Option ℕ) → Looked w p.known z.known p.goal x → goal_in p w z l x ≡ answered_in (shown (problem_of p flags count) p w (steps.Arrived z)) l
+    by-found : (x : Option ℕ) → Looked w p.known z.known p.goal x → goal_in p w z l x ≡ answered_in (shown (problem_of p flags count) p w (Ok (steps.Arrived z))) l
     by-found None looked = absurd (never-unknown ended.1 looked.1)
     by-found (Some i) looked =
         ap (λ (x : Option (List Cell)). route_in x (g_in w p.known i) z.count l) (way-back p w z.known ended.0 bytes z i refl looked.0)
@@ -121,7 +100,7 @@ module _ (p : Plan) (flags : List ℕ) (count : ℕ) (words : Words p.start) (so
   unfolding plan_of
   waiting-room = omega (arith, some-wait)
 
-  module _ {w₀ h₀ w h : List ℕ} {r : Step} (a : RunMeets P p w₀ h₀ w h r (begin P told)) where
+  module _ {w₀ h₀ w h : List ℕ} {r : Result Step Refusal} (a : RunMeets P p w₀ h₀ w h r (begin P told)) where
     ran-result : at_end (run P (pops_for p.known p.waiting) (begin P told)) ≡ shown P p w r
     unfolding plan_of
     ran-result =

@@ -1,6 +1,7 @@
 -- Theorems about functions that stand between crates, which C does not call: what docs/PROMISES.md says of the search's memory, in words of specs/Inner.
 -- The law behind each is the one that its proof names.
-use Rattle.std.specs.Prelude.{Some}
+use Rattle.refusal.specs.declared.Refusal.{Refusal}
+use Rattle.std.specs.Prelude.{Some, Result}
 use mathlib.Core.List.{List, map}
 use mathlib.Core.Path.{◌≡◌}
 use Prim.Native.Nat.{ℕ, ◌<◌}
@@ -13,7 +14,7 @@ use Rattle.refusal.specs.Refusals.{cell_of}
 use Rattle.search.specs.Search.{begin}
 use Rattle.search_rows.specs.Inner.Rows.{Rows}
 use Rattle.expansion.proofs.Simulates.{Simulates}
-use Rattle.expansion.specs.Inner.Bytes.{Rooms}
+use Rattle.expansion.specs.Inner.Bytes.{Rooms, going_in}
 use Rattle.expansion.specs.Inner.State.{problem_of, RunMeets}
 use Rattle.expansion.specs.declared.Plan.{Plan}
 use Rattle.expansion.specs.declared.Sizes.{Sizes}
@@ -27,7 +28,7 @@ use Rattle.astar.proofs as laws
 pub begin-simulates :
     (p : Plan) (flags : List ℕ) (count : ℕ) (w h : List ℕ) (rooms : Rooms p.known p.waiting w h) (bytes : Bytes w) (heap-bytes : Bytes h)
     (words : Words p.start)
-    → let P = problem_of p flags count in Simulates p flags count w h (begin_in p w h) (begin P (distance_bits (distance_cells p.start p.goal)))
+    → let P = problem_of p flags count in Simulates p flags count w h (going_in (begin_in p w h)) (begin P (distance_bits (distance_cells p.start p.goal)))
 begin-simulates = laws.BeginLaws.begin-simulates
 
 -- In a workspace with rows, the way back from a known record over the bytes has the cells that the definition traces.
@@ -38,19 +39,19 @@ way-back = laws.WayLaws.way-back
 
 -- Where a search has ended, the answer and the output that the bytes give are those of the definition's result.
 pub end-shown :
-    (p : Plan) (flags w : List ℕ) (count : ℕ) (r : Step) (l : List ℕ) → Ended p w r → Bytes w → Words p.goal
+    (p : Plan) (flags w : List ℕ) (count : ℕ) (r : Result Step Refusal) (l : List ℕ) → Ended p w r → Bytes w → Words p.goal
     → end_in p w r l ≡ answered_in (shown (problem_of p flags count) p w r) l
 end-shown = laws.EndLaws.end-shown
 
 -- In buffers with room, whatever they hold, a whole search that arrives has its sizes within the room.
 pub whole-sized :
-    (p : Plan) (flags : List Row) (w h w' h' : List ℕ) (r : Step) → Rooms p.known p.waiting w h → (w', h', r) ≡ whole_in p flags w h
+    (p : Plan) (flags : List Row) (w h w' h' : List ℕ) (r : Result Step Refusal) → Rooms p.known p.waiting w h → (w', h', r) ≡ whole_in p flags w h
     → SizedEnd p w' r
 whole-sized = laws.WholeLaws.whole-sized
 
 -- In buffers with room, a whole search over the bytes ends where the definition ends after some pops from its start.
 pub whole-ran :
     (p : Plan) (flags : List ℕ) (count : ℕ) (w h : List ℕ) (rooms : Rooms p.known p.waiting w h) (bytes : Bytes w) (heap-bytes : Bytes h)
-    (words : Words p.start) (w' h' : List ℕ) (r : Step) → (w', h', r) ≡ whole_in p (rows_of flag_width flags count) w h
+    (words : Words p.start) (w' h' : List ℕ) (r : Result Step Refusal) → (w', h', r) ≡ whole_in p (rows_of flag_width flags count) w h
     → let P = problem_of p flags count in RunMeets P p w h w' h' r (begin P (distance_bits (distance_cells p.start p.goal)))
 whole-ran = laws.WholeLaws.whole-ran

@@ -1,6 +1,6 @@
 -- A call of the search that is refused beyond its limit tells that limit, and one expansion more: of any bytes.
 use Rattle.std.specs.Prelude.{Ok, Err, Result}
-use mathlib.Core.Path.{◌≡◌, refl}
+use mathlib.Core.Path.{◌≡◌, refl, sym}
 use mathlib.Core.List.{List}
 use Prim.Native.Nat.{ℕ}
 use native.Mathlib.Omega.{arith}
@@ -10,10 +10,11 @@ use Rattle.refusal.specs.declared.Cell.{Cell}
 use Rattle.refusal.specs.declared.Spent.{Spent}
 use Rattle.refusal.specs.declared.Refusal.{Refusal}
 use Rattle.refusal.specs.declared.Refusal.TheVariants.{SearchLimitExceeded, BadWorkspace, BadList, BadLayer, BadRule}
-use Rattle.cell.specs.Bytes.{cell_at, from_bytes_of}
+use Rattle.cell.specs.Bytes.{from_bytes_of}
 use Rattle.table.specs.Records.{rows_of, is_sound, layer}
 use Rattle.cell_list.specs.Listing.{room_in}
 use Rattle.search.specs.Search.{SearchResult, found, none_found}
+use Rattle.general.proofs.Results.{err-path, err-is-no-ok}
 use Rattle.general.proofs.Tests.{whether}
 use Rattle.search.specs.declared.Route.{Route}
 use Rattle.search.specs.Terms.{OneBeyond}
@@ -26,13 +27,7 @@ use Rattle.known.specs.Workspace.{in_rooms}
 -- bytes that are no cell are BadList
 bytes-refused : (l : List ℕ) {r : Refusal} → from_bytes_of l ≡ Err r → r ≡ BadList
 unfolding from_bytes_of
-bytes-refused l {r} e = whether (eqb (length l) 16) (λ t. is-cell (rw t at e)) (λ t. is_none (rw t at e))
-  where
-    is-cell : ◌≡◌ {A = Result Cell Refusal} (Ok (cell_at l 0)) (Err r) → r ≡ BadList
-    is-cell f = cc
-
-    is_none : ◌≡◌ {A = Result Cell Refusal} (Err BadList) (Err r) → r ≡ BadList
-    is_none f = cc
+bytes-refused l {r} e = whether (eqb (length l) 16) (λ t. absurd (err-is-no-ok (sym (rw t at e)))) (λ t. sym (err-path (rw t at e)))
 
 -- a refusal of the call beyond the limit is one of the search
 said-refused : (q : SearchResult) (l : List ℕ) (x : Spent) → (answered_in q l).said ≡ Err (SearchLimitExceeded x) → q ≡ none_found (SearchLimitExceeded x)

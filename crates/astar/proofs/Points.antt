@@ -33,7 +33,7 @@ known head before = (head ∷ replicate 35 0) ++ (before ∷ replicate 7 0)
 
 -- what is said, and an output of 16 bytes, where the search has come to its goal with one cell counted
 abbrev ends : Cell → ℕ → ℕ → Changed (Result Route Refusal)
-ends start head before = end_in (plan_from start) (known head before) (step.Arrived (sizes_of 1 0 1)) (replicate 16 9)
+ends start head before = end_in (plan_from start) (known head before) (Ok (step.Arrived (sizes_of 1 0 1))) (replicate 16 9)
 
 abbrev refused : Refusal → Changed (Result Route Refusal)
 refused r = changed (Err r) (replicate 16 9)

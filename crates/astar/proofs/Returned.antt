@@ -33,12 +33,9 @@ use Rattle.search.proofs.Accepted.{found-accepted}
 use Rattle.search.proofs.Words.{found-words}
 use Rattle.search.specs.SearchOutcome.{searched}
 use Rattle.search.specs.declared.Route.{Route}
+use Rattle.general.proofs.Results.{err-is-no-ok}
 use Rattle.astar.specs.Answer.{answered_in}
 use Rattle.astar.specs.Call.{has_rooms, found_in_layer, found_from_bytes, wiped, search_in, asking, buffers}
-
--- a refusal is no route
-not_found : {r : Refusal} {t : Route} → ◌≡◌ {A = Result Route Refusal} (Err r) (Ok t) → ⊥
-not_found e = let z : ◌≡◌ {A = ℕ} 0 1 = cc in omega arith
 
 module _ (s e : List ℕ) (known waiting limit rule : ℕ) (flags : List ℕ) (n : ℕ) (l : List ℕ) (in_start : Bytes s) (in-goal : Bytes e) (t : Route) where
   abbrev rows : List Row
@@ -76,7 +73,7 @@ module _ (s e : List ℕ) (known waiting limit rule : ℕ) (flags : List ℕ) (n
           }
 
       result-accepted : (x : SearchResult) → search_of (endpoints c d) (in_rooms known waiting) limit rule rows ≡ x → Returns (answered_in x l)
-      result-accepted (none_found r) f said = absurd (not_found said)
+      result-accepted (none_found r) f said = absurd (err-is-no-ok said)
       result-accepted (found cs cost expansions) f said = by-room (leb (length cs) (room_in l)) said
         where
           told : Route
@@ -84,16 +81,16 @@ module _ (s e : List ℕ) (known waiting limit rule : ℕ) (flags : List ℕ) (n
 
           by-room : (b : Bool) → Returns (cond b (changed (Ok told) (cells_laid (map cell_of cs) l)) (changed (Err (NoRoom Output)) l))
           by-room true g = let same : told ≡ t = cc in subst (Accepts (cells_laid (map cell_of cs) l)) same (laid-accepted cs cost expansions f)
-          by-room false g = absurd (not_found g)
+          by-room false g = absurd (err-is-no-ok g)
 
     under-accepted : (b k : Bool) → is_sound 20 flags n ≡ b → ltb rule 2 ≡ k → Returns (answered_in (found_in_layer (endpoints c d) (in_rooms known waiting) limit rule (layer flags n)) l)
-    under-accepted false k sound ruled said = absurd (not_found (rw sound at said))
-    under-accepted true false sound ruled said = absurd (not_found (rw (sound, ruled) at said))
+    under-accepted false k sound ruled said = absurd (err-is-no-ok (rw sound at said))
+    under-accepted true false sound ruled said = absurd (err-is-no-ok (rw (sound, ruled) at said))
     under-accepted true true sound ruled said = rw (sound, ruled) (result-accepted sound ruled (search_of (endpoints c d) (in_rooms known waiting) limit rule rows) refl (rw (sound, ruled) at said))
 
   cells-accepted : (a b : Result Cell Refusal) → from_bytes_of s ≡ a → from_bytes_of e ≡ b → Returns (answered_in (found_from_bytes a b (in_rooms known waiting) limit rule (layer flags n)) l)
-  cells-accepted (Err r) b f g said = absurd (not_found said)
-  cells-accepted (Ok c) (Err r) f g said = absurd (not_found said)
+  cells-accepted (Err r) b f g said = absurd (err-is-no-ok said)
+  cells-accepted (Ok c) (Err r) f g said = absurd (err-is-no-ok said)
   cells-accepted (Ok c) (Ok d) f g said = under-accepted c d f g (is_sound 20 flags n) (ltb rule 2) refl refl said
 
   module _ (w h : List ℕ) (said : (search_in (asking s e (in_rooms known waiting) limit rule (layer flags n)) (buffers w h l)).said ≡ Ok t) where
@@ -106,7 +103,7 @@ module _ (s e : List ℕ) (known waiting limit rule : ℕ) (flags : List ℕ) (n
 
         by-rooms : (b : Bool) → let x = cond b (wiped done w h) (searched (Err BadWorkspace) w h l) in x.said ≡ Ok t → Accepts x.output t
         by-rooms true g = cells-accepted (from_bytes_of s) (from_bytes_of e) refl refl g
-        by-rooms false g = absurd (not_found g)
+        by-rooms false g = absurd (err-is-no-ok g)
 
     -- a call writes as many cells as it tells
     pub returned-size : length (take (16 * t.cells) (search_in (asking s e (in_rooms known waiting) limit rule (layer flags n)) (buffers w h l)).output) ≡ 16 * t.cells

@@ -1,5 +1,5 @@
 // The whole search: from lent bytes to a route in a buffer.
-ghost use Rattle.std.specs.Prelude.{◌≡◌, [], ◌∷◌, length};
+ghost use Rattle.std.specs.Prelude.{◌≡◌, [], ◌∷◌, length, Ok};
 ghost use Rattle.refusal.specs.Refusals.{raw_of};
 ghost use Rattle.cell.specs.Cell.{distance_cells};
 ghost use Rattle.cell.specs.Bytes.{from_bytes_of};
@@ -30,33 +30,28 @@ const RESERVED: usize = 64;
 
 // The start is known and waits.
 #[tactic(auto, unfolding(crate::specs::Inner::Bytes::begin_in))]
-fn begin(workspace: &mut [u8], heap: &mut [u8], plan: Plan) -> Step
+fn begin(workspace: &mut [u8], heap: &mut [u8], plan: Plan) -> Result<Sizes, Refusal>
     requires { Rooms plan.known plan.waiting workspace.old heap.old }
     ensures { (workspace.new, heap.new, result) ≡ begin_in plan workspace.old heap.old }
 {
     let start = plan.start;
-    let goal = plan.goal;
-    match expansion::ahead(start, goal) {
-        Err(r) => Step::Stopped(r),
-        Ok(h) => {
-            search_rows::clear(workspace, plan.known);
-            search_rows::append(workspace, plan.known, 0, start, 0, 0);
-            waiting::push(
-                heap,
-                0,
-                Entry {
-                    f: h,
-                    cell: start,
-                    g: 0,
-                },
-            );
-            Step::Going(Sizes {
-                known: 1,
-                waiting: 1,
-                count: 0,
-            })
-        }
-    }
+    let f = expansion::ahead(start, plan.goal)?;
+    search_rows::clear(workspace, plan.known);
+    search_rows::append(workspace, plan.known, 0, start, 0, 0);
+    waiting::push(
+        heap,
+        0,
+        Entry {
+            f,
+            cell: start,
+            g: 0,
+        },
+    );
+    Ok(Sizes {
+        known: 1,
+        waiting: 1,
+        count: 0,
+    })
 }
 
 // A run that is to count more cells than are ever counted goes to the end.
@@ -70,25 +65,21 @@ fn run_from_start(
     flags: &[u8],
     count: usize,
     plan: Plan,
-) -> Step
+) -> Result<Step, Refusal>
     requires { Ready plan workspace.old heap.old flags.now count }
     ensures { let rows = rows_of flag_width flags.now count in
         (workspace.new, heap.new, result) ≡ whole_in plan rows workspace.old heap.old }
 {
-    let first = begin(workspace, heap, plan);
-    let Step::Going(sizes) = first else {
-        return first;
-    };
+    let sizes = begin(workspace, heap, plan)?;
     expansion::run(workspace, heap, flags, count, plan, sizes, NO_BOUND)
 }
 
 // What a search that has ended says.
 fn end(workspace: &[u8], plan: Plan, step: Step, output: &mut [u8]) -> Result<Route, Refusal>
-    requires { SizedEnd plan workspace.now step }
-    ensures { changed result output.new ≡ end_in plan workspace.now step output.old }
+    requires { SizedEnd plan workspace.now (Ok step) }
+    ensures { changed result output.new ≡ end_in plan workspace.now (Ok step) output.old }
 {
     match step {
-        Step::Stopped(r) => Err(r),
         Step::Arrived(sizes) => {
             let goal = plan.goal;
             match search_rows::look(workspace, plan.known, sizes.known, goal) {
@@ -118,7 +109,7 @@ fn between(
     ensures workspace_len_unchanged { length workspace.new ≡ length workspace.old }
     ensures heap_len_unchanged { length heap.new ≡ length heap.old }
 {
-    let last = run_from_start(workspace, heap, flags, count, plan);
+    let last = run_from_start(workspace, heap, flags, count, plan)?;
     end(workspace, plan, last, output)
 }
 

@@ -18,7 +18,7 @@ use mir.Facts.{Fits-of_z, of_z-to_z, sfits_to_z}
 use Rattle.refusal.specs.declared.Coord.{Coord}
 use Rattle.refusal.specs.declared.Cell.{Cell}
 use Rattle.refusal.specs.declared.Refusal.{Refusal}
-use Rattle.refusal.specs.declared.Refusal.TheVariants.{NoChildren, CoordOverflow}
+use Rattle.refusal.specs.declared.Refusal.TheVariants.{NoChildren}
 use Rattle.refusal.specs.Refusals.{raw_of, cell_of}
 use Rattle.lattice.specs.declared.Parity.{Parity}
 use Rattle.lattice.specs.Lattice as lattice

@@ -1,4 +1,6 @@
 -- One pop: the first of the entries that wait is skipped, or its cell is closed, counted and entered.
+use Rattle.refusal.specs.declared.Refusal.{Refusal}
+use Rattle.std.specs.Prelude.{Result, Ok, Err}
 use mathlib.Core.Path.{◌≡◌, refl, sym, ap, subst, ◌∙◌}
 use mathlib.Core.Bool.{true, false, true≢false}
 use mathlib.Core.List.{List, [], ◌∷◌, map}
@@ -46,7 +48,7 @@ module _ (P : Problem) (c : ℕ) (rest : List Entry) (s : State) where
 -- ---- the cases of the code
 
 pub nowhere-meets : (p : Plan) (flags w h : List ℕ) (count : ℕ) (z : Sizes) → z.waiting ≡ 0
-    → StepMeets (problem_of p flags count) p w h w h (steps.Stopped (NoPathFound (record { start = p.start; goal = p.goal }))) (step (problem_of p flags count) (state_in p w h z))
+    → StepMeets (problem_of p flags count) p w h w h (Err (NoPathFound (record { start = p.start; goal = p.goal }))) (step (problem_of p flags count) (state_in p w h z))
 unfolding step plan_of entries_in
 nowhere-meets p flags w h count z empty =
     let none-wait : entries_in h z.waiting ≡ [] = ap (λ (n : ℕ). map entry_with (sorted_keys h n)) empty ∙ ap (map entry_with) (empty-keys h) in
@@ -80,7 +82,7 @@ module _ (p : Plan) (P : Problem) (w h h' : List ℕ) (z : Sizes) (e : waited.En
   never-nowhere n = true≢false (sym waits.0 ∙ ap is_known n)
 
   module _ (i : ℕ) (found : find c rows ≡ some (row_in w p.known i)) where
-    pub skipped-meets : (row_in w p.known i).closed ≡ true → StepMeets P p w h w h' (steps.Going (sizes_of z.known (z.waiting - 1) z.count)) (step P s)
+    pub skipped-meets : (row_in w p.known i).closed ≡ true → StepMeets P p w h w h' (Ok (steps.Going (sizes_of z.known (z.waiting - 1) z.count))) (step P s)
     skipped-meets closed =
         let fewer : z.waiting - 1 ≤ p.waiting = omega (arith, good.few) in
         record {
@@ -118,7 +120,7 @@ module _ (p : Plan) (P : Problem) (w h h' : List ℕ) (z : Sizes) (e : waited.En
             counted = ap closed_in rows_are ∙ closed-close c rows waits.0 (ap is_closed found ∙ unclosed) ∙ ap suc good.counted ∙ sym (add-one z.count);
           }
 
-      pub entered-meets : (g : ℕ) → g ≡ (row_in w p.known i).g → (w'' h'' : List ℕ) (r : Step)
+      pub entered-meets : (g : ℕ) → g ≡ (row_in w p.known i).g → (w'' h'' : List ℕ) (r : Result Step Refusal)
           → StepMeets P p w' h' w'' h'' r (entered P (raw_of (cell_in w' p.known i)) g (state_in p w' h' (sizes_of z.known (z.waiting - 1) (z.count + 1)))) → StepMeets P p w h w'' h'' r (step P s)
       entered-meets g g-is w'' h'' r m =
           let cell = ap raw_of (changed.cells i below ∙ cell-is) in

@@ -38,7 +38,7 @@ use Rattle.expansion.specs.declared.Plan.{Plan}
 use Rattle.expansion.specs.declared.Sizes.{Sizes}
 use Rattle.expansion.specs.declared.Step.{Step}
 use Rattle.expansion.specs.declared.Step.TheVariants as step
-use Rattle.expansion.specs.Inner.Bytes.{sizes_of, entry_to, After, is_no_cost, Fits, pushed_in, push_known_in, push_new_in, try_known_in, try_new_in, tried_in, relax_in, and_then_in, relax_all_in, around_in, entered_in, popped_in, advance_in, enough}
+use Rattle.expansion.specs.Inner.Bytes.{sizes_of, entry_to, After, is_no_cost, Fits, pushed_in, push_known_in, push_new_in, try_known_in, try_new_in, tried_in, relax_in, onward_in, step_of, going_in, relax_all_in, around_in, entered_in, popped_in, advance_in, enough}
 use Rattle.expansion.proofs.Left.{left_in}
 
 -- ---- lengths
@@ -72,12 +72,12 @@ pub record Within (p : Plan) (z : Sizes) (more : ℕ) (z' : Sizes) : Type 0 wher
   pub added : z'.waiting ≤ z.waiting + more
   pub counted : z'.count ≡ z.count
 
-abbrev pub On : Plan → Sizes → ℕ → Step → Type 0
-On p z more (step.Going z') = Within p z more z'
-On p z more (step.Stopped r) = Unit {0}
-On p z more (step.Arrived z') = Within p z more z'
+abbrev pub On : Plan → Sizes → ℕ → Result Step Refusal → Type 0
+On p z more (Ok (step.Going z')) = Within p z more z'
+On p z more (Err r) = Unit {0}
+On p z more (Ok (step.Arrived z')) = Within p z more z'
 
-pub record Kept (p : Plan) (w h : List ℕ) (z : Sizes) (more : ℕ) (x : After) : Type 0 where
+pub record Kept (p : Plan) (w h : List ℕ) (z : Sizes) (more : ℕ) (x : After Step) : Type 0 where
   pub workspace-length : length x.0 ≡ length w
   pub heap-length : length x.1 ≡ length h
   pub on : On p z more x.2
@@ -86,7 +86,7 @@ pub record Kept (p : Plan) (w h : List ℕ) (z : Sizes) (more : ℕ) (x : After)
 pub left-enough : (p : Plan) (w h : List ℕ) (z : Sizes) → Fits p w h z → left_in p z < enough p
 left-enough p w h z fits = let few = fits.few in omega arith
 
-pub fits_kept : (p : Plan) (w h w' h' : List ℕ) (z z' : Sizes) (more : ℕ) → Fits p w h z → Kept p w h z more (w', h', step.Going z') → Fits p w' h' z'
+pub fits_kept : (p : Plan) (w h w' h' : List ℕ) (z z' : Sizes) (more : ℕ) → Fits p w h z → Kept p w h z more (w', h', Ok (step.Going z')) → Fits p w' h' z'
 fits_kept p w h w' h' z z' more fits kept =
     let within = kept.on in
     let long = kept.workspace-length in
@@ -102,79 +102,82 @@ fits_kept p w h w' h' z z' more fits kept =
 
 module _ (p : Plan) (flags : List Row) where
   module _ (w h : List ℕ) (z : Sizes) (fits : Fits p w h z) where
-    pub kept_here : (more : ℕ) → Kept p w h z more (w, h, step.Going z)
+    pub kept_here : (more : ℕ) → Kept p w h z more (w, h, Ok (step.Going z))
     kept_here more = record { workspace-length = refl; heap-length = refl; on = record { from = omega arith; known = fits.known; few = fits.few; added = omega arith; counted = refl } }
 
-    kept-stopped : (more : ℕ) (r : Refusal) → Kept p w h z more (w, h, step.Stopped r)
+    kept-stopped : (more : ℕ) (r : Refusal) → Kept p w h z more (w, h, Err r)
     kept-stopped more r = record { workspace-length = refl; heap-length = refl; on = tt }
 
-    pushed-kept : (w' : List ℕ) (known : ℕ) (n : Cell) (g : ℕ) (told : OrRefused ℕ) → length w' ≡ length w → z.known ≤ known → known ≤ p.known → Kept p w h z 1 (pushed_in p w w' h z known n g told)
+    -- what a neighbour leaves is kept
+    abbrev KeptOn : After Sizes → Type 0
+    KeptOn x = Kept p w h z 1 (going_in x)
+
+    pushed-kept : (w' : List ℕ) (known : ℕ) (n : Cell) (g : ℕ) (told : OrRefused ℕ) → length w' ≡ length w → z.known ≤ known → known ≤ p.known → Kept p w h z 1 (going_in (pushed_in p w w' h z known n g told))
     pushed-kept w' known n g (refused r) long from to = kept-stopped 1 r
     pushed-kept w' known n g (is x) long from to =
-        on_test (Kept p w h z 1) (ltb z.waiting p.waiting)
-        (w', push_in h z.waiting (entry_to (plus g x) n g), step.Going (sizes_of known (z.waiting + 1) z.count))
-        (w, h, step.Stopped (NoRoom room.Waiting))
+        on_test KeptOn (ltb z.waiting p.waiting)
+        (w', push_in h z.waiting (entry_to (plus g x) n g), Ok (sizes_of known (z.waiting + 1) z.count))
+        (w, h, Err (NoRoom room.Waiting))
         (λ e.
         let less = ltb-true z.waiting p.waiting e in
         record { workspace-length = long; heap-length = length_push h z.waiting (entry_to (plus g x) n g); on = record { from = from; known = to; few = omega arith; added = omega arith; counted = refl } })
         (λ e. kept-stopped 1 (NoRoom room.Waiting))
 
-    renew-kept : (at i g : ℕ) → Kept p w h z 1 (push_known_in p w h z at i g)
+    renew-kept : (at i g : ℕ) → Kept p w h z 1 (going_in (push_known_in p w h z at i g))
     unfolding push_known_in
     renew-kept at i g = pushed-kept (lower_in w p.known i g at) z.known (cell_in w p.known i) g (distance_bits (distance_cells (cell_in w p.known i) p.goal)) (length-row w p.known i g at) (omega arith) fits.known
 
-    fresh_kept : (at : ℕ) (n : Cell) (g : ℕ) → z.known < p.known → Kept p w h z 1 (push_new_in p w h z at n g)
+    fresh_kept : (at : ℕ) (n : Cell) (g : ℕ) → z.known < p.known → Kept p w h z 1 (going_in (push_new_in p w h z at n g))
     unfolding push_new_in
     fresh_kept at n g less = pushed-kept (append_in w p.known z.known n g at) (z.known + 1) n g (distance_bits (distance_cells n p.goal)) (length-append-in w p.known z.known n g at) (omega arith) (omega arith)
 
-    known_kept : (at i : ℕ) (n : Cell) (t : ℕ) → Kept p w h z 1 (try_known_in p flags w h z at i n t)
+    known_kept : (at i : ℕ) (n : Cell) (t : ℕ) → Kept p w h z 1 (going_in (try_known_in p flags w h z at i n t))
     unfolding try_known_in
     known_kept at i n t =
-        let here : After = (w, h, step.Going z) in
+        let here : After Sizes = (w, h, Ok z) in
         let free = cond (is_shut p.rule flags n) here (push_known_in p w h z at i t) in
         let shorter = cond (ltb t (g_in w p.known i)) free here in
-        on_test (Kept p w h z 1) (row_in w p.known i).closed here shorter (λ e. kept_here 1)
-        (λ e. on_test (Kept p w h z 1) (ltb t (g_in w p.known i)) free here
-        (λ l. on_test (Kept p w h z 1) (is_shut p.rule flags n) here (push_known_in p w h z at i t) (λ s. kept_here 1) (λ s. renew-kept at i t))
+        on_test KeptOn (row_in w p.known i).closed here shorter (λ e. kept_here 1)
+        (λ e. on_test KeptOn (ltb t (g_in w p.known i)) free here
+        (λ l. on_test KeptOn (is_shut p.rule flags n) here (push_known_in p w h z at i t) (λ s. kept_here 1) (λ s. renew-kept at i t))
         (λ l. kept_here 1))
 
-    new-kept : (at : ℕ) (n : Cell) (t : ℕ) → Kept p w h z 1 (try_new_in p flags w h z at n t)
+    new-kept : (at : ℕ) (n : Cell) (t : ℕ) → Kept p w h z 1 (going_in (try_new_in p flags w h z at n t))
     unfolding try_new_in
     new-kept at n t =
-        let here : After = (w, h, step.Going z) in
-        let full : After = (w, h, step.Stopped (NoRoom room.Known)) in
+        let here : After Sizes = (w, h, Ok z) in
+        let full : After Sizes = (w, h, Err (NoRoom room.Known)) in
         let rooms = cond (ltb z.known p.known) (push_new_in p w h z at n t) full in
-        on_test (Kept p w h z 1) (is_shut p.rule flags n) here (cond (ltb t 0x7FF0_0000_0000_0000) rooms here) (λ s. kept_here 1)
-        (λ s. on_test (Kept p w h z 1) (ltb t 0x7FF0_0000_0000_0000) rooms here
-        (λ l. on_test (Kept p w h z 1) (ltb z.known p.known) (push_new_in p w h z at n t) full (λ e. fresh_kept at n t (ltb-true z.known p.known e)) (λ e. kept-stopped 1 (NoRoom room.Known)))
+        on_test KeptOn (is_shut p.rule flags n) here (cond (ltb t 0x7FF0_0000_0000_0000) rooms here) (λ s. kept_here 1)
+        (λ s. on_test KeptOn (ltb t 0x7FF0_0000_0000_0000) rooms here
+        (λ l. on_test KeptOn (ltb z.known p.known) (push_new_in p w h z at n t) full (λ e. fresh_kept at n t (ltb-true z.known p.known e)) (λ e. kept-stopped 1 (NoRoom room.Known)))
         (λ l. kept_here 1))
 
-    tried-kept : (at : ℕ) (n : Cell) (t : ℕ) (r : Option ℕ) → Kept p w h z 1 (tried_in p flags w h z at n t r)
+    tried-kept : (at : ℕ) (n : Cell) (t : ℕ) (r : Option ℕ) → Kept p w h z 1 (going_in (tried_in p flags w h z at n t r))
     tried-kept at n t (Some i) = known_kept at i n t
     tried-kept at n t None = new-kept at n t
 
-    pub relax-kept : (at : ℕ) (c : Cell) (g : ℕ) (n : Cell) → Kept p w h z 1 (relax_in p flags at c g n w h z)
+    pub relax-kept : (at : ℕ) (c : Cell) (g : ℕ) (n : Cell) → Kept p w h z 1 (going_in (relax_in p flags at c g n w h z))
     unfolding relax_in
     relax-kept at c g n = tried-kept at n (plus g (to_bits binary64 (cost_between c n))) (find_in w p.known z.known n)
 
-    -- a step and what comes after it
-    then-kept : (a m : ℕ) (next : List ℕ → List ℕ → Sizes → After) (w' h' : List ℕ) (r : Step) → Kept p w h z a (w', h', r)
-        → ((z' : Sizes) → Fits p w' h' z' → Kept p w' h' z' m (next w' h' z')) → Kept p w h z (a + m) (and_then_in w' h' r next)
-    then-kept a m next w' h' (step.Stopped r) kept more = record { workspace-length = kept.workspace-length; heap-length = kept.heap-length; on = tt }
-    then-kept a m next w' h' (step.Arrived z') kept more =
-        let on = kept.on in
+    -- a neighbour and what comes after it
+    then-kept : (a m : ℕ) (next : List ℕ → List ℕ → Sizes → After Sizes) (w' h' : List ℕ) (r : Result Sizes Refusal) → Kept p w h z a (w', h', step_of r)
+        → ((z' : Sizes) → Fits p w' h' z' → Kept p w' h' z' m (going_in (next w' h' z'))) → Kept p w h z (a + m) (going_in (onward_in w' h' r next))
+    then-kept a m next w' h' (Err r) kept more = record { workspace-length = kept.workspace-length; heap-length = kept.heap-length; on = tt }
+    then-kept a m next w' h' (Ok z') kept more =
         record {
-          workspace-length = kept.workspace-length;
-          heap-length = kept.heap-length;
-          on = record { from = on.from; known = on.known; few = on.few; added = omega (arith, on.added); counted = on.counted };
+          workspace-length = after.workspace-length ∙ kept.workspace-length;
+          heap-length = after.heap-length ∙ kept.heap-length;
+          on = both (next w' h' z').2 after.on;
         }
-    then-kept a m next w' h' (step.Going z') kept more = joined (next w' h' z').2 refl
       where
-        after : Kept p w' h' z' m (next w' h' z')
+        after : Kept p w' h' z' m (going_in (next w' h' z'))
         after = more z' (fits_kept p w h w' h' z z' a fits kept)
 
-        within : (z'' : Sizes) → Within p z' m z'' → Within p z (a + m) z''
-        within z'' on =
+        both : (r : Result Sizes Refusal) → On p z' m (step_of r) → On p z (a + m) (step_of r)
+        both (Err r) on = tt
+        both (Ok z'') on =
             let first = kept.on in
             record {
               from = omega (arith, first.from, on.from);
@@ -184,38 +187,25 @@ module _ (p : Plan) (flags : List Row) where
               counted = on.counted ∙ first.counted;
             }
 
-        both : (r : Step) → On p z' m r → On p z (a + m) r
-        both (step.Stopped r) on = tt
-        both (step.Arrived z'') on = within z'' on
-        both (step.Going z'') on = within z'' on
-
-        joined : (r : Step) → (next w' h' z').2 ≡ r → Kept p w h z (a + m) (next w' h' z')
-        joined r e =
-            record {
-              workspace-length = after.workspace-length ∙ kept.workspace-length;
-              heap-length = after.heap-length ∙ kept.heap-length;
-              on = both (next w' h' z').2 after.on;
-            }
-
-  pub relax-all-kept : (at : ℕ) (c : Cell) (g : ℕ) (ns : List Cell) (w h : List ℕ) (z : Sizes) → Fits p w h z → Kept p w h z (length ns) (relax_all_in p flags at c g ns w h z)
+  pub relax-all-kept : (at : ℕ) (c : Cell) (g : ℕ) (ns : List Cell) (w h : List ℕ) (z : Sizes) → Fits p w h z → Kept p w h z (length ns) (going_in (relax_all_in p flags at c g ns w h z))
   unfolding relax_all_in
   relax-all-kept at c g [] w h z fits = kept_here w h z fits 0
   relax-all-kept at c g (n ∷ ns) w h z fits =
       let x = relax_in p flags at c g n w h z in
       let more : 1 + length ns ≡ suc (length ns) = omega arith in
-      subst (λ (k : ℕ). Kept p w h z k (and_then_in x.0 x.1 x.2 (relax_all_in p flags at c g ns))) more
+      subst (λ (k : ℕ). Kept p w h z k (going_in (onward_in x.0 x.1 x.2 (relax_all_in p flags at c g ns)))) more
       (then-kept w h z fits 1 (length ns) (relax_all_in p flags at c g ns) x.0 x.1 x.2 (relax-kept w h z fits at c g n) (λ z' there. relax-all-kept at c g ns x.0 x.1 z' there))
 
   around-kept : (w h : List ℕ) (z : Sizes) → Fits p w h z → (at : ℕ) (c : Cell) (g : ℕ) (o : Result (List Cell) Refusal) → ((cells : List Cell) → o ≡ Ok cells → length cells ≡ 14) → Kept p w h z 14 (around_in p flags w h z at c g o)
   around-kept w h z fits at c g (Err r) long = kept-stopped w h z fits 14 r
-  around-kept w h z fits at c g (Ok cells) long = subst (λ (k : ℕ). Kept p w h z k (relax_all_in p flags at c g cells w h z)) (long cells refl) (relax-all-kept at c g cells w h z fits)
+  around-kept w h z fits at c g (Ok cells) long = subst (λ (k : ℕ). Kept p w h z k (going_in (relax_all_in p flags at c g cells w h z))) (long cells refl) (relax-all-kept at c g cells w h z fits)
 
   pub entered-kept : (w h : List ℕ) (z : Sizes) → Fits p w h z → (at g : ℕ) → Kept p w h z 14 (entered_in p flags w h z at g)
   unfolding entered_in
   entered-kept w h z fits at g =
       let c = cell_in w p.known at in
-      let spent : After = (w, h, step.Stopped (SearchLimitExceeded (record { expansions = z.count; limit = p.limit }))) in
-      let there : After = (w, h, step.Arrived z) in
+      let spent : After Step = (w, h, Err (SearchLimitExceeded (record { expansions = z.count; limit = p.limit }))) in
+      let there : After Step = (w, h, Ok (step.Arrived z)) in
       let around = around_in p flags w h z at c g (neighbors_of c) in
       on_test (Kept p w h z 14) (ltb p.limit z.count) spent (cond (eqb (raw_of c) (raw_of p.goal)) there around) (λ e. kept-stopped w h z fits 14 (SearchLimitExceeded (record { expansions = z.count; limit = p.limit })))
       (λ e. on_test (Kept p w h z 14) (eqb (raw_of c) (raw_of p.goal)) there around (λ f. record { workspace-length = refl; heap-length = refl; on = (kept_here w h z fits 14).on })
@@ -230,12 +220,12 @@ module _ (p : Plan) (flags : List Row) where
     pub counted : z'.count ≤ z'.known
     pub less : left_in p z' < left_in p z
 
-  abbrev pub OnForward : Sizes → Step → Type 0
-  OnForward z (step.Going z') = Forward z z'
-  OnForward z (step.Stopped r) = Unit {0}
-  OnForward z (step.Arrived z') = Forward z z'
+  abbrev pub OnForward : Sizes → Result Step Refusal → Type 0
+  OnForward z (Ok (step.Going z')) = Forward z z'
+  OnForward z (Err r) = Unit {0}
+  OnForward z (Ok (step.Arrived z')) = Forward z z'
 
-  pub record Popped (w h : List ℕ) (z : Sizes) (x : After) : Type 0 where
+  pub record Popped (w h : List ℕ) (z : Sizes) (x : After Step) : Type 0 where
     pub workspace-length : length x.0 ≡ length w
     pub heap-length : length x.1 ≡ length h
     pub on : OnForward z x.2
@@ -258,10 +248,10 @@ module _ (p : Plan) (flags : List Row) where
       }
 
   module _ (w h h' : List ℕ) (z : Sizes) (fits : Fits p w h z) (some : 0 < z.waiting) (high : length h' ≡ length h) where
-    bad-pop : Popped w h z (w, h', step.Stopped BadWorkspace)
+    bad-pop : Popped w h z (w, h', Err BadWorkspace)
     bad-pop = record { workspace-length = refl; heap-length = high; on = tt }
 
-    skip-pop : Popped w h z (w, h', step.Going (sizes_of z.known (z.waiting - 1) z.count))
+    skip-pop : Popped w h z (w, h', Ok (step.Going (sizes_of z.known (z.waiting - 1) z.count)))
     skip-pop =
         let few = fits.few in
         record { workspace-length = refl; heap-length = high; on = record { known = fits.known; few = omega arith; counted = fits.counted; less = omega arith } }
@@ -283,16 +273,16 @@ module _ (p : Plan) (flags : List Row) where
               less = omega (arith, on.counted, on.added);
             }
 
-        forward : (r : Step) → On p (closed_sizes z) 14 r → OnForward z r
-        forward (step.Stopped r) on = tt
-        forward (step.Arrived z') on = within z' on
-        forward (step.Going z') on = within z' on
+        forward : (r : Result Step Refusal) → On p (closed_sizes z) 14 r → OnForward z r
+        forward (Err r) on = tt
+        forward (Ok (step.Arrived z')) on = within z' on
+        forward (Ok (step.Going z')) on = within z' on
 
     found-pop : (r : Option ℕ) → Popped w h z (popped_in p flags w h' z r)
     found-pop None = bad-pop
     found-pop (Some i) =
-        let bad : After = (w, h', step.Stopped BadWorkspace) in
-        let skip : After = (w, h', step.Going (sizes_of z.known (z.waiting - 1) z.count)) in
+        let bad : After Step = (w, h', Err BadWorkspace) in
+        let skip : After Step = (w, h', Ok (step.Going (sizes_of z.known (z.waiting - 1) z.count))) in
         let enter = entered_in p flags (close_in w p.known i) h' (closed_sizes z) i (g_in w p.known i) in
         let last = cond (is_no_cost (g_in w p.known i)) bad enter in
         on_test (Popped w h z) (row_in w p.known i).closed skip (cond (ltb z.count z.known) last bad) (λ e. skip-pop)
@@ -303,7 +293,7 @@ module _ (p : Plan) (flags : List Row) where
   pub advance-forward : (w h : List ℕ) (z : Sizes) → Fits p w h z → Popped w h z (advance_in p flags w h z)
   unfolding advance_in
   advance-forward w h z fits =
-      let none : After = (w, h, step.Stopped (NoPathFound (record { start = p.start; goal = p.goal }))) in
+      let none : After Step = (w, h, Err (NoPathFound (record { start = p.start; goal = p.goal }))) in
       let pop = popped_in p flags w (pop_in h z.waiting) z (find_in w p.known z.known (entry_at h 0).cell) in
       on_test (Popped w h z) (eqb z.waiting 0) none pop (λ e. record { workspace-length = refl; heap-length = refl; on = tt })
       (λ e. found-pop w h (pop_in h z.waiting) z fits (positive z.waiting (eqb-false z.waiting 0 e)) (length-pop h z.waiting) (find_in w p.known z.known (entry_at h 0).cell))

@@ -1,4 +1,6 @@
 -- The two loops of the byte steps, over the neighbours and over the pops: what is left to do leads to the same bytes. And a run from sizes that were tested.
+use Rattle.refusal.specs.declared.Refusal.{Refusal}
+use Rattle.std.specs.Prelude.{Result, Ok, Err}
 use mathlib.Core.Path.{◌≡◌, refl, sym, ap, subst, ◌∙◌}
 use mathlib.Core.Bool.{Bool, true, false, ◌&&◌, true≢false}
 use mathlib.Core.List.{List, ◌∷◌}
@@ -17,7 +19,7 @@ use Rattle.expansion.specs.declared.Plan.{Plan}
 use Rattle.expansion.specs.declared.Sizes.{Sizes}
 use Rattle.expansion.specs.declared.Step.{Step}
 use Rattle.expansion.specs.declared.Step.TheVariants as step
-use Rattle.expansion.specs.Inner.Bytes.{After, Rooms, Fits, relax_in, and_then_in, relax_all_in, advance_in, is_sized, enough, paused_in, pops_in, run_in, resume_in}
+use Rattle.expansion.specs.Inner.Bytes.{After, Rooms, Fits, relax_in, onward_in, step_of, going_in, and_then_in, relax_all_in, advance_in, is_sized, enough, paused_in, pops_in, run_in, resume_in}
 use Rattle.expansion.proofs.Left.{left_in}
 use Rattle.expansion.proofs.BytesKept.{Kept, fits_kept, relax-kept, Popped, advance-forward, fits-forward, left-enough}
 
@@ -34,46 +36,41 @@ pub record AroundIn (p : Plan) (flags : List Row) (at : ℕ) (c : Cell) (g : ℕ
 module _ {p : Plan} {flags : List Row} {at : ℕ} {c : Cell} {g : ℕ} {cells : List Cell} {w₀ h₀ : List ℕ} {z₀ : Sizes} {w h : List ℕ} {z : Sizes} {i : ℕ}
     (a : AroundIn p flags at c g cells w₀ h₀ z₀ w h z i) where
   module _ (d : Cell) (less : i < length cells) (w' h' : List ℕ) where
-    module _ (r : Step) (m : (w', h', r) ≡ relax_in p flags at c g (get_or cells i d) w h z) where
-      others : and_then_in w' h' r (relax_all_in p flags at c g (drop (i + 1) cells)) ≡ relax_all_in p flags at c g cells w₀ h₀ z₀
+    module _ (r : Result Sizes Refusal) (m : (w', h', r) ≡ relax_in p flags at c g (get_or cells i d) w h z) where
+      others : onward_in w' h' r (relax_all_in p flags at c g (drop (i + 1) cells)) ≡ relax_all_in p flags at c g cells w₀ h₀ z₀
       unfolding relax_all_in
       others =
           let first : drop i cells ≡ get_or cells i d ∷ drop (i + 1) cells = drop-cons cells i d less ∙ ap (λ (k : ℕ). get_or cells i d ∷ drop k cells) (sym (add-one i)) in
-          ap (λ (x : After). and_then_in x.0 x.1 x.2 (relax_all_in p flags at c g (drop (i + 1) cells))) m
+          ap (λ (x : After Sizes). onward_in x.0 x.1 x.2 (relax_all_in p flags at c g (drop (i + 1) cells))) m
           ∙ ap (λ (l : List Cell). relax_all_in p flags at c g l w h z) (sym first)
           ∙ a.same
 
-      kept : Kept p w h z 1 (w', h', r)
-      kept = subst (Kept p w h z 1) (sym m) (relax-kept p flags w h z a.fits at c g (get_or cells i d))
+      kept : Kept p w h z 1 (w', h', step_of r)
+      kept = subst (λ (x : After Sizes). Kept p w h z 1 (going_in x)) (sym m) (relax-kept p flags w h z a.fits at c g (get_or cells i d))
 
-      -- it has ended
-      pub around_out : ((z' : Sizes) → r ≡ step.Going z' → ⊥) → (w', h', r) ≡ relax_all_in p flags at c g cells w₀ h₀ z₀
-      around_out last = stays r (relax_all_in p flags at c g (drop (i + 1) cells)) last ∙ others
-        where
-          stays : (r : Step) (next : List ℕ → List ℕ → Sizes → After) → ((z' : Sizes) → r ≡ step.Going z' → ⊥) → (w', h', r) ≡ and_then_in w' h' r next
-          stays (step.Stopped q) next last = refl
-          stays (step.Arrived z') next last = refl
-          stays (step.Going z') next last = absurd (last z' refl)
+    -- it was refused
+    pub around_out : (q : Refusal) → (w', h', Err q) ≡ relax_in p flags at c g (get_or cells i d) w h z → (w', h', Err q) ≡ relax_all_in p flags at c g cells w₀ h₀ z₀
+    around_out q m = others (Err q) m
 
-    pub around_next : (z' : Sizes) → (w', h', step.Going z') ≡ relax_in p flags at c g (get_or cells i d) w h z → AroundIn p flags at c g cells w₀ h₀ z₀ w' h' z' (i + 1)
+    pub around_next : (z' : Sizes) → (w', h', Ok z') ≡ relax_in p flags at c g (get_or cells i d) w h z → AroundIn p flags at c g cells w₀ h₀ z₀ w' h' z' (i + 1)
     around_next z' m =
-        let after = kept (step.Going z') m in
+        let after = kept (Ok z') m in
         record {
           workspace-length = after.workspace-length ∙ a.workspace-length;
           heap-length = after.heap-length ∙ a.heap-length;
           fits = fits_kept p w h w' h' z z' 1 a.fits after;
           below = omega (arith, a.below, after.on.from);
-          same = others (step.Going z') m;
+          same = others (Ok z') m;
         }
 
-  pub around_end : length cells ≤ i → (w, h, step.Going z) ≡ relax_all_in p flags at c g cells w₀ h₀ z₀
+  pub around_end : length cells ≤ i → (w, h, Ok z) ≡ relax_all_in p flags at c g cells w₀ h₀ z₀
   unfolding relax_all_in
   around_end past = sym (at_drop_all (λ (l : List Cell). relax_all_in p flags at c g l w h z) cells i past) ∙ a.same
 
 -- ---- pop after pop
 
 module _ (p : Plan) (flags : List Row) (k until : ℕ) (w h : List ℕ) (z : Sizes) where
-  pub pops-paused : paused_in p until w h z ≡ true → pops_in p flags (suc k) until w h z ≡ (w, h, step.Going z)
+  pub pops-paused : paused_in p until w h z ≡ true → pops_in p flags (suc k) until w h z ≡ (w, h, Ok (step.Going z))
   unfolding pops_in
   pops-paused paused = rw paused
 
@@ -82,8 +79,8 @@ module _ (p : Plan) (flags : List Row) (k until : ℕ) (w h : List ℕ) (z : Siz
   pops-on goes = rw goes
 
   -- with what the code came to
-  pub pops-next : paused_in p until w h z ≡ false → (w' h' : List ℕ) (r : Step) → (w', h', r) ≡ advance_in p flags w h z → pops_in p flags (suc k) until w h z ≡ and_then_in w' h' r (pops_in p flags k until)
-  pops-next goes w' h' r e = pops-on goes ∙ ap (λ (x : After). and_then_in x.0 x.1 x.2 (pops_in p flags k until)) (sym e)
+  pub pops-next : paused_in p until w h z ≡ false → (w' h' : List ℕ) (r : Result Step Refusal) → (w', h', r) ≡ advance_in p flags w h z → pops_in p flags (suc k) until w h z ≡ and_then_in w' h' r (pops_in p flags k until)
+  pops-next goes w' h' r e = pops-on goes ∙ ap (λ (x : After Step). and_then_in x.0 x.1 x.2 (pops_in p flags k until)) (sym e)
 
 -- what is left of the pops leads to the same bytes; it is not paused
 pub record Popping (p : Plan) (flags : List Row) (until : ℕ) (w₀ h₀ : List ℕ) (z₀ : Sizes) (w h : List ℕ) (z : Sizes) : Type 0 where
@@ -100,7 +97,7 @@ module _ {p : Plan} {flags : List Row} {until : ℕ} {w₀ h₀ : List ℕ} {z�
   popping-start fits goes = record { workspace-length = refl; heap-length = refl; fits = fits; goes = goes; steps = enough p; suffice = left-enough p w₀ h₀ z₀ fits; same = refl }
 
   module _ {w h : List ℕ} {z : Sizes} (a : Popping p flags until w₀ h₀ z₀ w h z) (w' h' : List ℕ) where
-    module _ (r : Step) (m : (w', h', r) ≡ advance_in p flags w h z) where
+    module _ (r : Result Step Refusal) (m : (w', h', r) ≡ advance_in p flags w h z) where
       went : Popped p flags w h z (w', h', r)
       went = subst (Popped p flags w h z) (sym m) (advance-forward p flags w h z a.fits)
 
@@ -115,41 +112,44 @@ module _ {p : Plan} {flags : List Row} {until : ℕ} {w₀ h₀ : List ℕ} {z�
           let more : a.steps ≡ suc (a.steps - 1) = omega (arith, a.suffice) in
           sym (pops-next p flags (a.steps - 1) until w h z a.goes w' h' r m) ∙ ap (λ (k : ℕ). pops_in p flags k until w h z) (sym more) ∙ a.same
 
-    -- it has ended
-    pub popping-out : (r : Step) → (w', h', r) ≡ advance_in p flags w h z → ((z' : Sizes) → r ≡ step.Going z' → ⊥) → (w', h', r) ≡ pops_in p flags (enough p) until w₀ h₀ z₀
-    popping-out (step.Stopped q) m last = onward (step.Stopped q) m
-    popping-out (step.Arrived z') m last = onward (step.Arrived z') m
+    -- it was refused
+    pub popping-refused : (q : Refusal) → (w', h', Err q) ≡ advance_in p flags w h z → (w', h', Err q) ≡ pops_in p flags (enough p) until w₀ h₀ z₀
+    popping-refused q m = onward (Err q) m
+
+    -- it has arrived
+    pub popping-out : (r : Step) → (w', h', Ok r) ≡ advance_in p flags w h z → ((z' : Sizes) → r ≡ step.Going z' → ⊥) → (w', h', Ok r) ≡ pops_in p flags (enough p) until w₀ h₀ z₀
+    popping-out (step.Arrived z') m last = onward (Ok (step.Arrived z')) m
     popping-out (step.Going z') m last = absurd (last z' refl)
 
-    module _ (z' : Sizes) (m : (w', h', step.Going z') ≡ advance_in p flags w h z) where
+    module _ (z' : Sizes) (m : (w', h', Ok (step.Going z')) ≡ advance_in p flags w h z) where
       pub popping-fits : Fits p w' h' z'
-      popping-fits = let x = went (step.Going z') m in fits-forward p flags w h w' h' z z' a.fits x.workspace-length x.heap-length x.on
+      popping-fits = let x = went (Ok (step.Going z')) m in fits-forward p flags w h w' h' z z' a.fits x.workspace-length x.heap-length x.on
 
       pub popping-falls : left_in p z' < left_in p z
-      popping-falls = (went (step.Going z') m).on.less
+      popping-falls = (went (Ok (step.Going z')) m).on.less
 
       -- it is paused
-      pub popping-paused : paused_in p until w' h' z' ≡ true → (w', h', step.Going z') ≡ pops_in p flags (enough p) until w₀ h₀ z₀
+      pub popping-paused : paused_in p until w' h' z' ≡ true → (w', h', Ok (step.Going z')) ≡ pops_in p flags (enough p) until w₀ h₀ z₀
       popping-paused paused =
           let more : a.steps - 1 ≡ suc (a.steps - 2) = omega (arith, a.suffice, popping-falls) in
-          sym (ap (λ (k : ℕ). pops_in p flags k until w' h' z') more ∙ pops-paused p flags (a.steps - 2) until w' h' z' paused) ∙ onward (step.Going z') m
+          sym (ap (λ (k : ℕ). pops_in p flags k until w' h' z') more ∙ pops-paused p flags (a.steps - 2) until w' h' z' paused) ∙ onward (Ok (step.Going z')) m
 
       pub popping-next : paused_in p until w' h' z' ≡ false → Popping p flags until w₀ h₀ z₀ w' h' z'
       popping-next goes =
           record {
-            workspace-length = popping-workspace (step.Going z') m;
-            heap-length = popping-heap (step.Going z') m;
+            workspace-length = popping-workspace (Ok (step.Going z')) m;
+            heap-length = popping-heap (Ok (step.Going z')) m;
             fits = popping-fits;
             goes = goes;
             steps = a.steps - 1;
             suffice = omega (arith, a.suffice, popping-falls);
-            same = onward (step.Going z') m;
+            same = onward (Ok (step.Going z')) m;
           }
 
 -- ---- a run
 
 module _ (p : Plan) (flags : List Row) (until : ℕ) (w h : List ℕ) (z : Sizes) where
-  pub run-paused : paused_in p until w h z ≡ true → run_in p flags until w h z ≡ (w, h, step.Going z)
+  pub run-paused : paused_in p until w h z ≡ true → run_in p flags until w h z ≡ (w, h, Ok (step.Going z))
   unfolding run_in
   run-paused paused =
       let more : enough p ≡ suc (enough p - 1) = omega arith in
@@ -160,7 +160,7 @@ module _ (p : Plan) (flags : List Row) (until : ℕ) (w h : List ℕ) (z : Sizes
   run-pops = refl
 
   -- from any sizes
-  pub resume-unsized : is_sized p z ≡ false → resume_in p flags until w h z ≡ (w, h, step.Stopped BadWorkspace)
+  pub resume-unsized : is_sized p z ≡ false → resume_in p flags until w h z ≡ (w, h, Err BadWorkspace)
   unfolding resume_in
   resume-unsized bad = rw bad
 

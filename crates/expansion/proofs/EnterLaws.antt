@@ -52,7 +52,7 @@ module _ (p : Plan) (flags w h : List ℕ) (count : ℕ) (z : Sizes) (at g : ℕ
   abbrev s : State
   s = state_in p w h z
 
-  pub spent-meets : p.limit < z.count → StepMeets P p w h w h (step.Stopped (SearchLimitExceeded (record { expansions = z.count; limit = p.limit }))) (entered P c g s)
+  pub spent-meets : p.limit < z.count → StepMeets P p w h w h (Err (SearchLimitExceeded (record { expansions = z.count; limit = p.limit }))) (entered P c g s)
   unfolding plan_of
   spent-meets l = record { same = sym (entered-spent P c g s (lt-ltb p.limit z.count l)); good = tt; workspace-length = refl; heap-length = refl }
 
@@ -66,7 +66,7 @@ module _ (p : Plan) (flags w h : List ℕ) (count : ℕ) (z : Sizes) (at g : ℕ
     goal-is e = ap (λ (a : Cell). eqb (raw_of a) (raw_of p.goal)) (sym same) ∙ e
 
     -- the goal is the cell of a record
-    pub arrived-meets : Bytes w → at < z.known → HoldsSearch p w h z → eqb (raw_of d) (raw_of p.goal) ≡ true → StepMeets P p w h w h (step.Arrived z) (entered P c g s)
+    pub arrived-meets : Bytes w → at < z.known → HoldsSearch p w h z → eqb (raw_of d) (raw_of p.goal) ≡ true → StepMeets P p w h w h (Ok (step.Arrived z)) (entered P c g s)
     arrived-meets bytes below good e =
         let goal : raw_of p.goal ≡ c = sym (eqb-true (raw_of d) (raw_of p.goal) e) ∙ ap raw_of same in
         let rows = rows_in w p.known z.known in
@@ -85,8 +85,8 @@ module _ (p : Plan) (flags w h : List ℕ) (count : ℕ) (z : Sizes) (at g : ℕ
       goes_on : (a : Result (List Cell) Refusal) → o ≡ a → entered P c g s ≡ around P c g s (near_by a)
       goes_on a f = entered_on P c g s in-limit (goal-is elsewhere) ∙ ap (around P c g s) (near-is ∙ ap near_by f)
 
-      pub alone-meets : (r : Refusal) → o ≡ Err r → StepMeets P p w h w h (step.Stopped r) (entered P c g s)
+      pub alone-meets : (r : Refusal) → o ≡ Err r → StepMeets P p w h w h (Err r) (entered P c g s)
       alone-meets r f = record { same = sym (goes_on (Err r) f); good = tt; workspace-length = refl; heap-length = refl }
 
-      pub around-meets : (cells : List Cell) → o ≡ Ok cells → (w' h' : List ℕ) (r : Step) → StepMeets P p w h w' h' r (relax_all P c g (map raw_of cells) s) → StepMeets P p w h w' h' r (entered P c g s)
+      pub around-meets : (cells : List Cell) → o ≡ Ok cells → (w' h' : List ℕ) (r : Result Step Refusal) → StepMeets P p w h w' h' r (relax_all P c g (map raw_of cells) s) → StepMeets P p w h w' h' r (entered P c g s)
       around-meets cells f w' h' r m = subst (StepMeets P p w h w' h' r) (sym (goes_on (Ok cells) f)) m

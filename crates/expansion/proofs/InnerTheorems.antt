@@ -1,5 +1,7 @@
 -- Theorems about functions that stand between crates, which C does not call: what docs/PROMISES.md says of the search's memory, in words of specs/Inner.
 -- The law behind each is the one that its proof names.
+use Rattle.refusal.specs.declared.Refusal.{Refusal}
+use Rattle.std.specs.Prelude.{Result}
 use mathlib.Core.List.{List}
 use mathlib.Core.Path.{◌≡◌}
 use Prim.Native.Nat.{ℕ, ◌<◌, ◌≤◌}
@@ -26,14 +28,14 @@ advance-forward = laws.BytesKept.advance-forward
 
 -- In buffers that hold a state of the search, a run comes to where the definition comes after some pops; where it would go on, it is paused.
 pub run-to :
-    (p : Plan) (flags : List ℕ) (count : ℕ) (until : ℕ) (w h w' h' : List ℕ) (z : Sizes) (r : Step) (good : HoldsSearch p w h z) (bytes : Bytes w)
+    (p : Plan) (flags : List ℕ) (count : ℕ) (until : ℕ) (w h w' h' : List ℕ) (z : Sizes) (r : Result Step Refusal) (good : HoldsSearch p w h z) (bytes : Bytes w)
     (heap-bytes : Bytes h) (e : (w', h', r) ≡ run_in p (rows_of flag_width flags count) until w h z)
     → let P = problem_of p flags count in RunMeetsTo P p until w h w' h' r (going (state_in p w h z))
 run-to = laws.Simulates.run-to
 
 -- In buffers that hold a state of the search, a run to more counts than there is room for known cells goes to the end, where the definition ends after some pops.
 pub run_by :
-    (p : Plan) (flags : List ℕ) (count : ℕ) (until : ℕ) (w h w' h' : List ℕ) (z : Sizes) (r : Step) (good : HoldsSearch p w h z) (bytes : Bytes w)
+    (p : Plan) (flags : List ℕ) (count : ℕ) (until : ℕ) (w h w' h' : List ℕ) (z : Sizes) (r : Result Step Refusal) (good : HoldsSearch p w h z) (bytes : Bytes w)
     (heap-bytes : Bytes h) (e : (w', h', r) ≡ run_in p (rows_of flag_width flags count) until w h z) → let P = problem_of p flags count in p.known < until
     → RunMeets P p w h w' h' r (going (state_in p w h z))
 run_by = laws.Simulates.run_by

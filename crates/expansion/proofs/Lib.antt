@@ -10,7 +10,6 @@ pub mod EnterLaws
 pub mod AdvanceLaws
 pub mod RunLaws
 pub mod Simulates
-pub mod Last
 pub mod Points
 mod OneAnswer
 pub mod Left

@@ -1,4 +1,6 @@
 -- Bytes that no search left, computed: rooms of one known cell and one waiting entry, the cell 0 and its entry. What cannot be searched on is BadWorkspace, and what can is searched on.
+use Rattle.expansion.specs.declared.Step.{Step}
+use Rattle.std.specs.Prelude.{Ok, Err}
 use mathlib.Core.Path.{◌≡◌, refl}
 use mathlib.Core.List.{List, [], ◌∷◌, ◌++◌}
 use Prim.Native.Nat.{ℕ}
@@ -35,25 +37,25 @@ abbrev entry : List ℕ
 entry = replicate 32 0
 
 -- from these bytes, with so many known, waiting and counted, to so many counts
-abbrev from : List ℕ → ℕ → ℕ → ℕ → ℕ → After
+abbrev from : List ℕ → ℕ → ℕ → ℕ → ℕ → After Step
 from w known waiting count until = resume_in plan [] until w entry (sizes_of known waiting count)
 
 pub record Altered : Type 0 where
   -- sizes above their rooms, and a count above the known cells
-  pub known-above : from (known 1 0 zero-cost) 2 1 0 5 ≡ (known 1 0 zero-cost, entry, step.Stopped BadWorkspace)
-  pub waiting-above : from (known 1 0 zero-cost) 1 2 0 5 ≡ (known 1 0 zero-cost, entry, step.Stopped BadWorkspace)
-  pub count-above : from (known 1 0 zero-cost) 1 1 2 5 ≡ (known 1 0 zero-cost, entry, step.Stopped BadWorkspace)
+  pub known-above : from (known 1 0 zero-cost) 2 1 0 5 ≡ (known 1 0 zero-cost, entry, Err BadWorkspace)
+  pub waiting-above : from (known 1 0 zero-cost) 1 2 0 5 ≡ (known 1 0 zero-cost, entry, Err BadWorkspace)
+  pub count-above : from (known 1 0 zero-cost) 1 1 2 5 ≡ (known 1 0 zero-cost, entry, Err BadWorkspace)
   -- no chain leads to the waiting cell: none has it, or its head is above the known cells
-  pub not-chained : from (known 0 0 zero-cost) 1 1 0 5 ≡ (known 0 0 zero-cost, entry, step.Stopped BadWorkspace)
-  pub head-above : from (known 2 0 zero-cost) 1 1 0 5 ≡ (known 2 0 zero-cost, entry, step.Stopped BadWorkspace)
+  pub not-chained : from (known 0 0 zero-cost) 1 1 0 5 ≡ (known 0 0 zero-cost, entry, Err BadWorkspace)
+  pub head-above : from (known 2 0 zero-cost) 1 1 0 5 ≡ (known 2 0 zero-cost, entry, Err BadWorkspace)
   -- its g is a NaN
-  pub no-cost : from (known 1 0 (replicate 8 255)) 1 1 0 5 ≡ (known 1 0 (replicate 8 255), entry, step.Stopped BadWorkspace)
+  pub no-cost : from (known 1 0 (replicate 8 255)) 1 1 0 5 ≡ (known 1 0 (replicate 8 255), entry, Err BadWorkspace)
   -- as many are counted as are known
-  pub all-counted : from (known 1 0 zero-cost) 1 1 1 5 ≡ (known 1 0 zero-cost, entry, step.Stopped BadWorkspace)
+  pub all-counted : from (known 1 0 zero-cost) 1 1 1 5 ≡ (known 1 0 zero-cost, entry, Err BadWorkspace)
   -- it is closed: to skip it is free, so the search ends although no count is left
-  pub skipped : from (known 1 1 zero-cost) 1 1 1 0 ≡ (known 1 1 zero-cost, entry, step.Stopped (NoPathFound (record { start = nought; goal = other })))
+  pub skipped : from (known 1 1 zero-cost) 1 1 1 0 ≡ (known 1 1 zero-cost, entry, Err (NoPathFound (record { start = nought; goal = other })))
   -- it would be counted: the search is paused
-  pub paused : from (known 1 0 zero-cost) 1 1 0 0 ≡ (known 1 0 zero-cost, entry, step.Going (sizes_of 1 1 0))
+  pub paused : from (known 1 0 zero-cost) 1 1 0 0 ≡ (known 1 0 zero-cost, entry, Ok (step.Going (sizes_of 1 1 0)))
 
 pub altered : Altered
 unfolding resume_in run_in pops_in due_in advance_in pop_in find_in seek_in bucket_of mixed_of row_in cell_in word number ordered

@@ -1,4 +1,6 @@
 -- One neighbour of a cell: the cases of the definition, and what the code does in each.
+use Rattle.refusal.specs.declared.Refusal.{Refusal}
+use Rattle.std.specs.Prelude.{Result, Ok, Err}
 use mathlib.Core.Path.{◌≡◌, refl, sym, ap, subst, ◌∙◌}
 use mathlib.Core.Bool.{Bool, true, false, cond, ◌||◌}
 use mathlib.Core.List.{List}
@@ -92,17 +94,17 @@ module _ (p : Plan) (flags w h : List ℕ) (count : ℕ) (z : Sizes) (at t : ℕ
     abbrev flow : Flow
     flow = tried P c (raw_of n) t s k
 
-    stays : flow ≡ going s → StepMeets P p w h w h (step.Going z) flow
+    stays : flow ≡ going s → StepMeets P p w h w h (Ok (step.Going z)) flow
     stays e = record { same = sym e; good = good; workspace-length = refl; heap-length = refl }
 
-    pub closed-meets : is_closed k ≡ true → StepMeets P p w h w h (step.Going z) flow
+    pub closed-meets : is_closed k ≡ true → StepMeets P p w h w h (Ok (step.Going z)) flow
     closed-meets e = stays (tried-closed P c (raw_of n) t s k e)
 
-    pub worse-meets : less t (g_of k) ≡ false → StepMeets P p w h w h (step.Going z) flow
+    pub worse-meets : less t (g_of k) ≡ false → StepMeets P p w h w h (Ok (step.Going z)) flow
     worse-meets l = stays (tried-worse P c (raw_of n) t s k l)
 
     module _ (unclosed : is_closed k ≡ false) where
-      pub shut-meets : is_shut p.rule (rows_of 20 flags count) n ≡ true → StepMeets P p w h w h (step.Going z) flow
+      pub shut-meets : is_shut p.rule (rows_of 20 flags count) n ≡ true → StepMeets P p w h w h (Ok (step.Going z)) flow
       shut-meets f = stays (tried-shut P c (raw_of n) t s k unclosed (shut-is ∙ f))
 
       lowers : is_shut p.rule (rows_of 20 flags count) n ≡ false → less t (g_of k) ≡ true → flow ≡ lower P c (raw_of n) t s k
@@ -110,7 +112,7 @@ module _ (p : Plan) (flags w h : List ℕ) (count : ℕ) (z : Sizes) (at t : ℕ
 
   module _ (free : is_shut p.rule (rows_of 20 flags count) n ≡ false) where
     -- a shorter way to the cell of record i, which is n
-    pub lowered-meets : (w' h' : List ℕ) (r : Step) (i : ℕ) (d : Cell) → d ≡ n → (row_in w p.known i).closed ≡ false → less t (row_in w p.known i).g ≡ true
+    pub lowered-meets : (w' h' : List ℕ) (r : Result Step Refusal) (i : ℕ) (d : Cell) → d ≡ n → (row_in w p.known i).closed ≡ false → less t (row_in w p.known i).g ≡ true
         → StepMeets P p w h w' h' r (push P c (raw_of d) t s (distance_bits (distance_cells d p.goal))) → StepMeets P p w h w' h' r (flow (some (row_in w p.known i)))
     lowered-meets w' h' r i d same unclosed l m =
         let e = lowers (some (row_in w p.known i)) unclosed free l ∙ lower-known P c (raw_of n) t s (row_in w p.known i) ∙ ap (push P c (raw_of n) t s) ahead-is in
@@ -118,13 +120,13 @@ module _ (p : Plan) (flags w h : List ℕ) (count : ℕ) (z : Sizes) (at t : ℕ
 
     module _ (l : less t 0x7FF0_0000_0000_0000 ≡ true) where
       -- a first way
-      pub added-meets : (w' h' : List ℕ) (r : Step) → z.known < p.known → StepMeets P p w h w' h' r (push P c (raw_of n) t s (distance_bits (distance_cells n p.goal))) → StepMeets P p w h w' h' r (flow none)
+      pub added-meets : (w' h' : List ℕ) (r : Result Step Refusal) → z.known < p.known → StepMeets P p w h w' h' r (push P c (raw_of n) t s (distance_bits (distance_cells n p.goal))) → StepMeets P p w h w' h' r (flow none)
       added-meets w' h' r room m =
           let e = lowers none refl free l ∙ lower-new P c (raw_of n) t s (subst (λ (x : ℕ). x < P.known_room) (sym (length-rows w p.known z.known)) (subst (λ (x : ℕ). z.known < x) (sym room-is) room)) ∙ ap (push P c (raw_of n) t s) ahead-is in
           subst (StepMeets P p w h w' h' r) (sym e) m
 
       -- no room for another known cell
-      pub crowded-meets : p.known ≤ z.known → StepMeets P p w h w h (step.Stopped (NoRoom Known)) (flow none)
+      pub crowded-meets : p.known ≤ z.known → StepMeets P p w h w h (Err (NoRoom Known)) (flow none)
       crowded-meets full =
           let e = lowers none refl free l ∙ lower-full P c (raw_of n) t s (subst (λ (x : ℕ). P.known_room ≤ x) (sym (length-rows w p.known z.known)) (subst (λ (x : ℕ). x ≤ z.known) (sym room-is) full)) in
           record { same = sym e; good = tt; workspace-length = refl; heap-length = refl }

@@ -1,4 +1,6 @@
 -- Pop after pop, from where the first one started: it goes on, it ends or it is paused.
+use Rattle.refusal.specs.declared.Refusal.{Refusal}
+use Rattle.std.specs.Prelude.{Result, Ok}
 use mathlib.Core.Path.{◌≡◌, refl, sym, ap, ◌∙◌}
 use mathlib.Core.Bool.{true}
 use mathlib.Core.List.{List}
@@ -31,7 +33,7 @@ module _ {p : Plan} {flags : List ℕ} {count : ℕ} {w₀ h₀ : List ℕ} {z�
     unfolding run
     one_more = run-split (problem_of p flags count) a.pops 1 (going (state_in p w₀ h₀ z₀)) ∙ ap (run (problem_of p flags count) 1) a.same
 
-    pub run-next : (w' h' : List ℕ) (z' : Sizes) → StepMeets (problem_of p flags count) p w h w' h' (steps.Going z') (step (problem_of p flags count) (state_in p w h z)) → Running p flags count w₀ h₀ z₀ w' h' z'
+    pub run-next : (w' h' : List ℕ) (z' : Sizes) → StepMeets (problem_of p flags count) p w h w' h' (Ok (steps.Going z')) (step (problem_of p flags count) (state_in p w h z)) → Running p flags count w₀ h₀ z₀ w' h' z'
     run-next w' h' z' m =
         record {
           pops = a.pops + 1;
@@ -41,7 +43,7 @@ module _ {p : Plan} {flags : List ℕ} {count : ℕ} {w₀ h₀ : List ℕ} {z�
           same = one_more ∙ sym m.same;
         }
 
-    pub run_ends : (until : ℕ) (w' h' : List ℕ) (r : Step) → ((x : Sizes) → r ≡ steps.Going x → ⊥) → StepMeets (problem_of p flags count) p w h w' h' r (step (problem_of p flags count) (state_in p w h z)) → RunMeetsTo (problem_of p flags count) p until w₀ h₀ w' h' r (going (state_in p w₀ h₀ z₀))
+    pub run_ends : (until : ℕ) (w' h' : List ℕ) (r : Result Step Refusal) → ((x : Sizes) → r ≡ Ok (steps.Going x) → ⊥) → StepMeets (problem_of p flags count) p w h w' h' r (step (problem_of p flags count) (state_in p w h z)) → RunMeetsTo (problem_of p flags count) p until w₀ h₀ w' h' r (going (state_in p w₀ h₀ z₀))
     run_ends until w' h' r last m =
         record {
           pops = a.pops + 1;
@@ -54,7 +56,7 @@ module _ {p : Plan} {flags : List ℕ} {count : ℕ} {w₀ h₀ : List ℕ} {z�
           paused = λ x e. absurd (last x e);
         }
 
-    pub run-pauses : (until : ℕ) → paused_in p until w h z ≡ true → RunMeetsTo (problem_of p flags count) p until w₀ h₀ w h (steps.Going z) (going (state_in p w₀ h₀ z₀))
+    pub run-pauses : (until : ℕ) → paused_in p until w h z ≡ true → RunMeetsTo (problem_of p flags count) p until w₀ h₀ w h (Ok (steps.Going z)) (going (state_in p w₀ h₀ z₀))
     run-pauses until paused =
         record {
           pops = a.pops;

@@ -1,4 +1,6 @@
 -- Runs keep sizes within the rooms and add, whatever the bytes hold: to pause at one count and to go on to a later one is to go on to the later one at once.
+use Rattle.refusal.specs.declared.Refusal.{Refusal}
+use Rattle.std.specs.Prelude.{Result, Ok, Err}
 use mathlib.Core.Path.{◌≡◌, refl, sym, ap, ◌∙◌}
 use mathlib.Core.Bool.{Bool, true, false, cond, ◌&&◌}
 use mathlib.Core.List.{List}
@@ -37,13 +39,13 @@ module _ (p : Plan) (flags : List Row) where
   more-steps u (suc k) zero w h z fits suffice also = absurd (omega arith)
   more-steps u (suc k) (suc m) w h z fits suffice also =
       let x = advance_in p flags w h z in
-      ap (cond (paused_in p u w h z) (w, h, step.Going z)) (on x.0 x.1 x.2 (advance-forward p flags w h z fits) (more-steps u k m))
+      ap (cond (paused_in p u w h z) (w, h, Ok (step.Going z))) (on x.0 x.1 x.2 (advance-forward p flags w h z fits) (more-steps u k m))
     where
-      on : (w' h' : List ℕ) (r : Step) → Popped p flags w h z (w', h', r) → ((w h : List ℕ) (z : Sizes) → Fits p w h z → left_in p z < k → left_in p z < m → pops_in p flags k u w h z ≡ pops_in p flags m u w h z)
+      on : (w' h' : List ℕ) (r : Result Step Refusal) → Popped p flags w h z (w', h', r) → ((w h : List ℕ) (z : Sizes) → Fits p w h z → left_in p z < k → left_in p z < m → pops_in p flags k u w h z ≡ pops_in p flags m u w h z)
           → and_then_in w' h' r (pops_in p flags k u) ≡ and_then_in w' h' r (pops_in p flags m u)
-      on w' h' (step.Going z') popped again = again w' h' z' (fits-forward p flags w h w' h' z z' fits popped.workspace-length popped.heap-length popped.on) (omega (arith, popped.on.less)) (omega (arith, popped.on.less))
-      on w' h' (step.Stopped r) popped again = refl
-      on w' h' (step.Arrived z') popped again = refl
+      on w' h' (Ok (step.Going z')) popped again = again w' h' z' (fits-forward p flags w h w' h' z z' fits popped.workspace-length popped.heap-length popped.on) (omega (arith, popped.on.less)) (omega (arith, popped.on.less))
+      on w' h' (Err r) popped again = refl
+      on w' h' (Ok (step.Arrived z')) popped again = refl
 
   -- ---- to one count, and then to a later one
 
@@ -56,44 +58,44 @@ module _ (p : Plan) (flags : List Row) where
     pops-add zero w h z fits suffice also = absurd (omega arith)
     pops-add (suc k) w h z fits suffice also =
         let x = advance_in p flags w h z in
-        on_test (λ (y : After). pops_in p flags K v w h z ≡ and_then_in y.0 y.1 y.2 (pops_in p flags K v)) (paused_in p u w h z) (w, h, step.Going z) (and_then_in x.0 x.1 x.2 (pops_in p flags k u))
+        on_test (λ (y : After Step). pops_in p flags K v w h z ≡ and_then_in y.0 y.1 y.2 (pops_in p flags K v)) (paused_in p u w h z) (w, h, Ok (step.Going z)) (and_then_in x.0 x.1 x.2 (pops_in p flags k u))
         (λ paused. refl)
         (λ goes.
         let steps : K ≡ suc (K - 1) = omega arith in
         ap (λ (m : ℕ). pops_in p flags m v w h z) steps ∙ pops-on p flags (K - 1) v w h z (later-on p u v w h z below goes)
         ∙ on x.0 x.1 x.2 (advance-forward p flags w h z fits) (pops-add k))
       where
-        on : (w' h' : List ℕ) (r : Step) → Popped p flags w h z (w', h', r) → ((w h : List ℕ) (z : Sizes) → Fits p w h z → left_in p z < K → left_in p z < k → Adds k w h z)
+        on : (w' h' : List ℕ) (r : Result Step Refusal) → Popped p flags w h z (w', h', r) → ((w h : List ℕ) (z : Sizes) → Fits p w h z → left_in p z < K → left_in p z < k → Adds k w h z)
             → and_then_in w' h' r (pops_in p flags (K - 1) v) ≡ (let y = and_then_in w' h' r (pops_in p flags k u) in and_then_in y.0 y.1 y.2 (pops_in p flags K v))
-        on w' h' (step.Going z') popped again =
+        on w' h' (Ok (step.Going z')) popped again =
             let there = fits-forward p flags w h w' h' z z' fits popped.workspace-length popped.heap-length popped.on in
             let falls = popped.on.less in
             more-steps v (K - 1) K w' h' z' there (omega arith) (omega arith) ∙ again w' h' z' there (omega arith) (omega arith)
-        on w' h' (step.Stopped r) popped again = refl
-        on w' h' (step.Arrived z') popped again = refl
+        on w' h' (Err r) popped again = refl
+        on w' h' (Ok (step.Arrived z')) popped again = refl
 
   -- ---- sizes stay within their rooms
 
-  abbrev pub FitsStep : List ℕ → List ℕ → Step → Type 0
-  FitsStep w h (step.Going z) = Fits p w h z
-  FitsStep w h (step.Stopped r) = Unit {0}
-  FitsStep w h (step.Arrived z) = Fits p w h z
+  abbrev pub FitsStep : List ℕ → List ℕ → Result Step Refusal → Type 0
+  FitsStep w h (Ok (step.Going z)) = Fits p w h z
+  FitsStep w h (Err r) = Unit {0}
+  FitsStep w h (Ok (step.Arrived z)) = Fits p w h z
 
   pops-fit : (u k : ℕ) (w h : List ℕ) (z : Sizes) → Fits p w h z → left_in p z < k → let y = pops_in p flags k u w h z in FitsStep y.0 y.1 y.2
   unfolding pops_in
   pops-fit u zero w h z fits suffice = absurd (omega arith)
   pops-fit u (suc k) w h z fits suffice =
       let x = advance_in p flags w h z in
-      on_test (λ (y : After). FitsStep y.0 y.1 y.2) (paused_in p u w h z) (w, h, step.Going z) (and_then_in x.0 x.1 x.2 (pops_in p flags k u))
+      on_test (λ (y : After Step). FitsStep y.0 y.1 y.2) (paused_in p u w h z) (w, h, Ok (step.Going z)) (and_then_in x.0 x.1 x.2 (pops_in p flags k u))
       (λ paused. fits)
       (λ goes. on x.0 x.1 x.2 (advance-forward p flags w h z fits) (pops-fit u k))
     where
-      on : (w' h' : List ℕ) (r : Step) → Popped p flags w h z (w', h', r)
+      on : (w' h' : List ℕ) (r : Result Step Refusal) → Popped p flags w h z (w', h', r)
           → ((w h : List ℕ) (z : Sizes) → Fits p w h z → left_in p z < k → let y = pops_in p flags k u w h z in FitsStep y.0 y.1 y.2)
           → let y = and_then_in w' h' r (pops_in p flags k u) in FitsStep y.0 y.1 y.2
-      on w' h' (step.Going z') popped again = again w' h' z' (fits-forward p flags w h w' h' z z' fits popped.workspace-length popped.heap-length popped.on) (omega (arith, popped.on.less))
-      on w' h' (step.Stopped r) popped again = tt
-      on w' h' (step.Arrived z') popped again = fits-forward p flags w h w' h' z z' fits popped.workspace-length popped.heap-length popped.on
+      on w' h' (Ok (step.Going z')) popped again = again w' h' z' (fits-forward p flags w h w' h' z z' fits popped.workspace-length popped.heap-length popped.on) (omega (arith, popped.on.less))
+      on w' h' (Err r) popped again = tt
+      on w' h' (Ok (step.Arrived z')) popped again = fits-forward p flags w h w' h' z z' fits popped.workspace-length popped.heap-length popped.on
 
   -- where a run goes on or has come to the goal, the sizes fit the buffers
   pub run_fits : (until : ℕ) (w h : List ℕ) (z : Sizes) → Fits p w h z → let y = run_in p flags until w h z in FitsStep y.0 y.1 y.2
@@ -103,7 +105,7 @@ module _ (p : Plan) (flags : List Row) where
   pub resume-fits : (until : ℕ) (w h : List ℕ) (z : Sizes) → Rooms p.known p.waiting w h → let y = resume_in p flags until w h z in FitsStep y.0 y.1 y.2
   unfolding resume_in
   resume-fits until w h z rooms =
-      on_test (λ (y : After). FitsStep y.0 y.1 y.2) (is_sized p z) (run_in p flags until w h z) (w, h, step.Stopped BadWorkspace)
+      on_test (λ (y : After Step). FitsStep y.0 y.1 y.2) (is_sized p z) (run_in p flags until w h z) (w, h, Err BadWorkspace)
       (λ e. run_fits until w h z (sized-fits p w h z rooms e))
       (λ e. tt)
 
@@ -118,17 +120,17 @@ module _ (p : Plan) (flags : List Row) where
   pub resumes-add : (u v : ℕ) (w h : List ℕ) (z : Sizes) → u ≤ v → Rooms p.known p.waiting w h → let y = resume_in p flags u w h z in resume_in p flags v w h z ≡ and_then_in y.0 y.1 y.2 (resume_in p flags v)
   resumes-add u v w h z below rooms = by_size (is_sized p z) refl
     where
-      on : (w' h' : List ℕ) (r : Step) → FitsStep w' h' r → and_then_in w' h' r (run_in p flags v) ≡ and_then_in w' h' r (resume_in p flags v)
-      on w' h' (step.Going z') fits = sym (resume-sized p flags v w' h' z' (fits-sized p w' h' z' fits))
-      on w' h' (step.Stopped r) fits = refl
-      on w' h' (step.Arrived z') fits = refl
+      on : (w' h' : List ℕ) (r : Result Step Refusal) → FitsStep w' h' r → and_then_in w' h' r (run_in p flags v) ≡ and_then_in w' h' r (resume_in p flags v)
+      on w' h' (Ok (step.Going z')) fits = sym (resume-sized p flags v w' h' z' (fits-sized p w' h' z' fits))
+      on w' h' (Err r) fits = refl
+      on w' h' (Ok (step.Arrived z')) fits = refl
 
       by_size : (t : Bool) → is_sized p z ≡ t → let y = resume_in p flags u w h z in resume_in p flags v w h z ≡ and_then_in y.0 y.1 y.2 (resume_in p flags v)
       by_size false e =
-          resume-unsized p flags v w h z e ∙ ap (λ (y : After). and_then_in y.0 y.1 y.2 (resume_in p flags v)) (sym (resume-unsized p flags u w h z e))
+          resume-unsized p flags v w h z e ∙ ap (λ (y : After Step). and_then_in y.0 y.1 y.2 (resume_in p flags v)) (sym (resume-unsized p flags u w h z e))
       by_size true e =
           let fits = sized-fits p w h z rooms e in
           let y = run_in p flags u w h z in
           resume-sized p flags v w h z e ∙ runs-add u v w h z below fits
           ∙ on y.0 y.1 y.2 (run_fits u w h z fits)
-          ∙ ap (λ (x : After). and_then_in x.0 x.1 x.2 (resume_in p flags v)) (sym (resume-sized p flags u w h z e))
+          ∙ ap (λ (x : After Step). and_then_in x.0 x.1 x.2 (resume_in p flags v)) (sym (resume-sized p flags u w h z e))

@@ -1,4 +1,5 @@
 -- What a push, a pop and a row that is put make of the state that two buffers hold.
+use Rattle.std.specs.Prelude.{Ok, Err}
 use mathlib.Core.Path.{◌≡◌, refl, sym, ap, subst, ◌∙◌}
 use mathlib.Core.Bool.{Bool, true, false, cond}
 use mathlib.Core.List.{List, [], ◌∷◌, map}
@@ -145,7 +146,7 @@ module _ (p : Plan) (w h w' h' : List ℕ) (z : Sizes) (known f g b : ℕ) (n : 
     abbrev flow : Flow
     flow = push P b (raw_of n) g (state_in p w h z) told
 
-    pub entered-meets : (x : ℕ) → is x ≡ told → f ≡ plus g x → Entered → StepMeets P p w h w' h' (step.Going (sizes_of known (z.waiting + 1) z.count)) flow
+    pub entered-meets : (x : ℕ) → is x ≡ told → f ≡ plus g x → Entered → StepMeets P p w h w' h' (Ok (step.Going (sizes_of known (z.waiting + 1) z.count))) flow
     entered-meets x e sum en =
         let s = state_in p w h z in
         let test : ltb (length (entries_in h z.waiting)) P.waiting_room ≡ true = (λ i. ltb (length-entries h z.waiting i) (room-is i)) ∙ lt-ltb z.waiting p.waiting en.room in
@@ -161,10 +162,10 @@ module _ (p : Plan) (w h w' h' : List ℕ) (z : Sizes) (known f g b : ℕ) (n : 
 -- ---- a push that is refused
 
 module _ (p : Plan) (w h : List ℕ) (z : Sizes) (c n g : ℕ) (P : Problem) (room-is : P.waiting_room ≡ p.waiting) (told : OrRefused ℕ) where
-  pub refused-meets : (r : Refusal) → refused r ≡ told → StepMeets P p w h w h (step.Stopped r) (push P c n g (state_in p w h z) told)
+  pub refused-meets : (r : Refusal) → refused r ≡ told → StepMeets P p w h w h (Err r) (push P c n g (state_in p w h z) told)
   refused-meets r e = record { same = ap (push P c n g (state_in p w h z)) e; good = tt; workspace-length = refl; heap-length = refl }
 
-  pub full_meets : (x : ℕ) → is x ≡ told → p.waiting ≤ z.waiting → StepMeets P p w h w h (step.Stopped (NoRoom Waiting)) (push P c n g (state_in p w h z) told)
+  pub full_meets : (x : ℕ) → is x ≡ told → p.waiting ≤ z.waiting → StepMeets P p w h w h (Err (NoRoom Waiting)) (push P c n g (state_in p w h z) told)
   full_meets x e full =
       let s = state_in p w h z in
       let test : ltb (length (entries_in h z.waiting)) P.waiting_room ≡ false = (λ i. ltb (length-entries h z.waiting i) (room-is i)) ∙ le-ltb z.waiting p.waiting full in

@@ -39,11 +39,10 @@ pub struct Sizes {
     pub count: u64,
 }
 
-// A search goes on, was refused, or has come to its goal.
+// A search goes on, or has come to its goal.
 #[derive(Clone, Copy)]
 pub enum Step {
     Going(Sizes),
-    Stopped(Refusal),
     Arrived(Sizes),
 }
 
@@ -88,27 +87,23 @@ fn push_known(
     at: usize,
     i: usize,
     g: u64,
-) -> Step
+) -> Result<Sizes, Refusal>
     requires { ToKnown plan workspace.old heap.old sizes at i g }
     ensures { (workspace.new, heap.new, result) ≡ push_known_in plan workspace.old heap.old sizes at i g }
 {
     let n = known::cell_at(workspace, plan.known, i);
-    match ahead(n, plan.goal) {
-        Err(r) => Step::Stopped(r),
-        Ok(h) => {
-            if sizes.waiting >= plan.waiting {
-                return Step::Stopped(Refusal::NoRoom(Room::Waiting));
-            }
-            search_rows::lower(workspace, plan.known, i, g, at);
-            let f = plus(g, h);
-            waiting::push(heap, sizes.waiting, Entry { f, cell: n, g });
-            Step::Going(Sizes {
-                known: sizes.known,
-                waiting: sizes.waiting + 1,
-                count: sizes.count,
-            })
-        }
+    let h = ahead(n, plan.goal)?;
+    if sizes.waiting >= plan.waiting {
+        return Err(Refusal::NoRoom(Room::Waiting));
     }
+    search_rows::lower(workspace, plan.known, i, g, at);
+    let f = plus(g, h);
+    waiting::push(heap, sizes.waiting, Entry { f, cell: n, g });
+    Ok(Sizes {
+        known: sizes.known,
+        waiting: sizes.waiting + 1,
+        count: sizes.count,
+    })
 }
 
 // A first way to a cell that is not known, from the cell of record `at`.
@@ -121,26 +116,22 @@ fn push_new(
     at: usize,
     n: Cell,
     g: u64,
-) -> Step
+) -> Result<Sizes, Refusal>
     requires { ToNew plan workspace.old heap.old sizes at g }
     ensures { (workspace.new, heap.new, result) ≡ push_new_in plan workspace.old heap.old sizes at n g }
 {
-    match ahead(n, plan.goal) {
-        Err(r) => Step::Stopped(r),
-        Ok(h) => {
-            if sizes.waiting >= plan.waiting {
-                return Step::Stopped(Refusal::NoRoom(Room::Waiting));
-            }
-            search_rows::append(workspace, plan.known, sizes.known, n, g, at);
-            let f = plus(g, h);
-            waiting::push(heap, sizes.waiting, Entry { f, cell: n, g });
-            Step::Going(Sizes {
-                known: sizes.known + 1,
-                waiting: sizes.waiting + 1,
-                count: sizes.count,
-            })
-        }
+    let h = ahead(n, plan.goal)?;
+    if sizes.waiting >= plan.waiting {
+        return Err(Refusal::NoRoom(Room::Waiting));
     }
+    search_rows::append(workspace, plan.known, sizes.known, n, g, at);
+    let f = plus(g, h);
+    waiting::push(heap, sizes.waiting, Entry { f, cell: n, g });
+    Ok(Sizes {
+        known: sizes.known + 1,
+        waiting: sizes.waiting + 1,
+        count: sizes.count,
+    })
 }
 
 // A way of cost t from the cell of record `at` to the cell n, which is known, in record i.
@@ -156,22 +147,22 @@ fn try_known(
     i: usize,
     n: Cell,
     t: u64,
-) -> Step
+) -> Result<Sizes, Refusal>
     requires { EnteredTo plan workspace.old heap.old sizes flags.now count at i t }
     ensures { let rows = rows_of flag_width flags.now count in
         (workspace.new, heap.new, result) ≡ try_known_in plan rows workspace.old heap.old sizes at i n t }
 {
     if search_rows::is_closed(workspace, plan.known, i) {
-        return Step::Going(sizes);
+        return Ok(sizes);
     }
     if t < search_rows::g_at(workspace, plan.known, i) {
         // Asked last: it costs most, and few ways are shorter.
         if route::is_shut(flags, count, plan.rule, n) {
-            return Step::Going(sizes);
+            return Ok(sizes);
         }
         return push_known(workspace, heap, plan, sizes, at, i, t);
     }
-    Step::Going(sizes)
+    Ok(sizes)
 }
 
 // The same to a cell that is not known.
@@ -186,21 +177,21 @@ fn try_new(
     at: usize,
     n: Cell,
     t: u64,
-) -> Step
+) -> Result<Sizes, Refusal>
     requires { Entered plan workspace.old heap.old sizes flags.now count at t }
     ensures { let rows = rows_of flag_width flags.now count in
         (workspace.new, heap.new, result) ≡ try_new_in plan rows workspace.old heap.old sizes at n t }
 {
     if route::is_shut(flags, count, plan.rule, n) {
-        return Step::Going(sizes);
+        return Ok(sizes);
     }
     if t < INFINITY {
         if sizes.known >= plan.known {
-            return Step::Stopped(Refusal::NoRoom(Room::Known));
+            return Err(Refusal::NoRoom(Room::Known));
         }
         return push_new(workspace, heap, plan, sizes, at, n, t);
     }
-    Step::Going(sizes)
+    Ok(sizes)
 }
 
 // One neighbour of the cell c, that of record `at`, which has the cost g.
@@ -216,7 +207,7 @@ fn relax(
     c: Cell,
     g: u64,
     n: Cell,
-) -> Step
+) -> Result<Sizes, Refusal>
     requires { Entered plan workspace.old heap.old sizes flags.now count at g }
     ensures { let rows = rows_of flag_width flags.now count in
         (workspace.new, heap.new, result) ≡ relax_in plan rows at c g n workspace.old heap.old sizes }
@@ -241,20 +232,16 @@ fn relax_all(
     c: Cell,
     g: u64,
     cells: [Cell; 14],
-) -> Step
+) -> Result<Sizes, Refusal>
     requires { Entered plan workspace.old heap.old sizes flags.now count at g }
     ensures { let rows = rows_of flag_width flags.now count in
         (workspace.new, heap.new, result) ≡ relax_all_in plan rows at c g cells workspace.old heap.old sizes }
 {
     let mut size = sizes;
     for n in cells {
-        let r = relax(workspace, heap, flags, count, plan, size, at, c, g, n);
-        let Step::Going(z) = r else {
-            return r;
-        };
-        size = z;
+        size = relax(workspace, heap, flags, count, plan, size, at, c, g, n)?;
     }
-    Step::Going(size)
+    Ok(size)
 }
 
 // ---- one pop
@@ -270,25 +257,24 @@ fn enter(
     sizes: Sizes,
     at: usize,
     g: u64,
-) -> Step
+) -> Result<Step, Refusal>
     requires { Entered plan workspace.old heap.old sizes flags.now count at g }
     ensures { let rows = rows_of flag_width flags.now count in
         (workspace.new, heap.new, result) ≡ entered_in plan rows workspace.old heap.old sizes at g }
 {
     if plan.limit < sizes.count {
-        return Step::Stopped(Refusal::SearchLimitExceeded(Spent {
+        return Err(Refusal::SearchLimitExceeded(Spent {
             expansions: sizes.count,
             limit: plan.limit,
         }));
     }
     let c = known::cell_at(workspace, plan.known, at);
     if cell::same(c, plan.goal) {
-        return Step::Arrived(sizes);
+        return Ok(Step::Arrived(sizes));
     }
-    match cell::get_neighbors(c) {
-        Ok(cells) => relax_all(workspace, heap, flags, count, plan, sizes, at, c, g, cells),
-        Err(r) => Step::Stopped(r),
-    }
+    let cells = cell::get_neighbors(c)?;
+    let reached = relax_all(workspace, heap, flags, count, plan, sizes, at, c, g, cells)?;
+    Ok(Step::Going(reached))
 }
 
 // The first of the entries that wait: skipped where its cell is closed, else the cell is closed and counted.
@@ -300,7 +286,7 @@ fn advance(
     count: usize,
     plan: Plan,
     sizes: Sizes,
-) -> Step
+) -> Result<Step, Refusal>
     requires fits { Fits plan workspace.old heap.old sizes }
     requires count_value { is_sound flag_width flags.now count ≡ true }
     ensures { let rows = rows_of flag_width flags.now count in
@@ -309,7 +295,7 @@ fn advance(
     if sizes.waiting == 0 {
         let start = plan.start;
         let goal = plan.goal;
-        return Step::Stopped(Refusal::NoPathFound(Ends { start, goal }));
+        return Err(Refusal::NoPathFound(Ends { start, goal }));
     }
     let first = waiting::pop(heap, sizes.waiting);
     let left = sizes.waiting - 1;
@@ -317,19 +303,19 @@ fn advance(
     match search_rows::look(workspace, plan.known, sizes.known, c) {
         Some(row) => {
             if search_rows::is_closed(workspace, plan.known, row) {
-                return Step::Going(Sizes {
+                return Ok(Step::Going(Sizes {
                     known: sizes.known,
                     waiting: left,
                     count: sizes.count,
-                });
+                }));
             }
             if sizes.count as usize >= sizes.known {
                 // More would be closed than are known.
-                return Step::Stopped(Refusal::BadWorkspace);
+                return Err(Refusal::BadWorkspace);
             }
             let g = search_rows::g_at(workspace, plan.known, row);
             if g > INFINITY {
-                return Step::Stopped(Refusal::BadWorkspace);
+                return Err(Refusal::BadWorkspace);
             }
             search_rows::close_at(workspace, plan.known, row);
             let counted = sizes.count + 1;
@@ -341,7 +327,7 @@ fn advance(
             enter(workspace, heap, flags, count, plan, closed, row, g)
         }
         // Every cell that waits is known, else these bytes cannot be searched on.
-        None => Step::Stopped(Refusal::BadWorkspace),
+        None => Err(Refusal::BadWorkspace),
     }
 }
 
@@ -379,19 +365,19 @@ fn pops(
     plan: Plan,
     sizes: Sizes,
     until: u64,
-) -> Step
+) -> Result<Step, Refusal>
     requires { Unpaused plan workspace.old heap.old sizes flags.now count until }
     ensures { let rows = rows_of flag_width flags.now count in
         (workspace.new, heap.new, result) ≡ pops_in plan rows (enough plan) until workspace.old heap.old sizes }
 {
     let mut size = sizes;
     loop {
-        let r = advance(workspace, heap, flags, count, plan, size);
-        let Step::Going(z) = r else {
-            return r;
+        let step = advance(workspace, heap, flags, count, plan, size)?;
+        let Step::Going(z) = step else {
+            return Ok(step);
         };
         if is_paused(workspace, heap, plan, z, until) {
-            return Step::Going(z);
+            return Ok(Step::Going(z));
         }
         size = z;
     }
@@ -408,14 +394,14 @@ pub fn run(
     plan: Plan,
     sizes: Sizes,
     until: u64,
-) -> Step
+) -> Result<Step, Refusal>
     requires fits { Fits plan workspace.old heap.old sizes }
     requires count_value { is_sound flag_width flags.now count ≡ true }
     ensures { let rows = rows_of flag_width flags.now count in
         (workspace.new, heap.new, result) ≡ run_in plan rows until workspace.old heap.old sizes }
 {
     if is_paused(workspace, heap, plan, sizes, until) {
-        return Step::Going(sizes);
+        return Ok(Step::Going(sizes));
     }
     pops(workspace, heap, flags, count, plan, sizes, until)
 }
@@ -437,14 +423,14 @@ pub fn resume(
     plan: Plan,
     sizes: Sizes,
     until: u64,
-) -> Step
+) -> Result<Step, Refusal>
     requires rooms { Rooms plan.known plan.waiting workspace.old heap.old }
     requires count_value { is_sound flag_width flags.now count ≡ true }
     ensures { let rows = rows_of flag_width flags.now count in
         (workspace.new, heap.new, result) ≡ resume_in plan rows until workspace.old heap.old sizes }
 {
     if !is_sized(plan, sizes) {
-        return Step::Stopped(Refusal::BadWorkspace);
+        return Err(Refusal::BadWorkspace);
     }
     run(workspace, heap, flags, count, plan, sizes, until)
 }

@@ -16,16 +16,16 @@ above : (r : ℕ) → minus (r + 1074) 1074 ≡ pos r
 above r = rw (le-leb 1074 (r + 1074) (omega arith)) (ap pos (omega arith))
 
 module _ (r : ℕ) (small : r < 256) where
-  pub power-value : of_bits binary64 ((1023 + r) * 0x0010_0000_0000_0000) ≡ fin false 1 (pos r)
+  pub power-value : of_bits binary64 ((1023 + r) * 0x0010_0000_0000_0000 % 0x1_0000_0000_0000_0000) ≡ fin false 1 (pos r)
   unfolding of_bits
   power-value =
-      let b = (1023 + r) * 0x0010_0000_0000_0000 in
+      let b = (1023 + r) * 0x0010_0000_0000_0000 % 0x1_0000_0000_0000_0000 in
       let sign : leb 0x8000_0000_0000_0000 b ≡ false = lt-leb 0x8000_0000_0000_0000 b (omega arith) in
       let field : b % 0x8000_0000_0000_0000 / 0x0010_0000_0000_0000 ≡ suc (1022 + r) = omega arith in
       let digits : b % 0x0010_0000_0000_0000 ≡ 0 = omega arith in
       let exponent : 1022 + r + 52 ≡ r + 1074 = omega arith in
       rw (sign, field, digits) (at_field (1022 + r) (omega arith) ∙ ap (λ (k : ℕ). fin false 1 (minus k 1074)) exponent ∙ ap (fin false 1) (above r))
 
-  pub power-number : nan_bits binary64 ((1023 + r) * 0x0010_0000_0000_0000) ≡ false
+  pub power-number : nan_bits binary64 ((1023 + r) * 0x0010_0000_0000_0000 % 0x1_0000_0000_0000_0000) ≡ false
   unfolding is_nan
   power-number = nan_bits_is binary64 _ ∙ ap is_nan power-value

@@ -9,9 +9,6 @@ ghost use Rattle.float.specs.Inner.Round.{whole_size};
 ghost use Rattle.float.specs.Round.{whole_away};
 ghost use Rattle.float.specs.TotalOrder.{total_key, bits_of_key};
 
-// The one pattern that is written for a NaN.
-const NAN: u64 = 0x7FF8_0000_0000_0000;
-
 // Whether a pattern is a NaN's: above that of the infinity, the sign aside.
 pub fn is_nan(bits: u64) -> bool
     ensures { result ≡ nan_bits binary64 bits }
@@ -31,27 +28,21 @@ pub fn value(bits: u64) -> f64
 pub fn number(bits: u64) -> f64
     ensures { result ≡ from_bits binary64 bits }
 {
-    if is_nan(bits) {
-        return 0.0 / 0.0;
-    }
-    value(bits)
+    std::num::f64_from_bits_with_nan(bits)
 }
 
-// The pattern of a number.
+// The pattern of a number: any NaN has that of the one quiet NaN whose sign is clear.
 pub fn bits(x: f64) -> u64
     ensures { result ≡ to_bits binary64 x }
 {
-    if x != x {
-        return NAN;
-    }
-    f64::to_bits(x)
+    std::num::f64_to_bits_with_nan(x)
 }
 
 // Two to the power of a resolution: the exponent's field alone.
 pub fn power_of_two(resolution: u8) -> f64
     ensures { result ≡ fin false 1 (pos resolution) }
 {
-    value((1023 + resolution as u64) * 0x0010_0000_0000_0000)
+    value((1023 + resolution as u64) << 52)
 }
 
 // The whole number nearest to a number above zero and below 2^52, halves up: half of one more than the whole part of its double.
@@ -68,31 +59,33 @@ pub fn nearest_whole(x: f64) -> i32
     ensures { result ≡ whole_away x }
 {
     if x > 0.0 {
-        return whole_size(x) as i32;
+        whole_size(x) as i32
+    } else if x < 0.0 {
+        -(whole_size(-x) as i32)
+    } else {
+        0
     }
-    if x < 0.0 {
-        return 0 - (whole_size(-x) as i32);
-    }
-    0
 }
 
 // A key of a pattern. Keys compare as numbers the way IEEE 754's total_order compares the patterns, and no two patterns share one.
+#[tactic(auto, unfolding(crate::specs::TotalOrder::total_key))]
 pub fn total_order_key(bits: u64) -> u64
     ensures { result ≡ total_key bits }
 {
     if bits < 0x8000_0000_0000_0000 {
         bits + 0x8000_0000_0000_0000
     } else {
-        0xFFFF_FFFF_FFFF_FFFF - bits
+        !bits
     }
 }
 
 // The pattern of a key.
+#[tactic(auto, unfolding(crate::specs::TotalOrder::bits_of_key))]
 pub fn key_bits(key: u64) -> u64
     ensures { result ≡ bits_of_key key }
 {
     if key < 0x8000_0000_0000_0000 {
-        0xFFFF_FFFF_FFFF_FFFF - key
+        !key
     } else {
         key - 0x8000_0000_0000_0000
     }

@@ -1,14 +1,13 @@
 -- After any history get answers what the last step that touched the cell left of it: "after any sequence of sets, removes, clears, loads and rollups into it, refused ones among them, from a sound
 -- layer, get answers what the last unrefused set or remove of that cell, clear, load or rollup left." The one induction over the steps is `history-keeps`.
-use Rattle.std.specs.Prelude.{Option}
 use mathlib.Core.Path.{◌≡◌, refl, ap, ◌∙◌}
 use mathlib.Core.List.{List, [], ◌∷◌}
 use Prim.Native.Nat.{ℕ}
+use Rattle.std.specs.Prelude.{Option, Ok}
 use Rattle.refusal.specs.declared.Cell.{Cell}
-use Rattle.cell.specs.declared.CellAnswer.TheVariants as cell
 use Rattle.cell.specs.Bytes.{from_bytes_of}
 use Rattle.table.specs.Records.{rows_of, held_of, Layer}
-use Rattle.layer.specs.Calls.{of_held, held_in}
+use Rattle.layer.specs.Calls.{held_in}
 use Rattle.layer.proofs.Holding.{get-of-rows}
 use Rattle.history.specs.History.{Kind, width_of, Step, OfBytes, AllOfBytes, no_steps, one-step, IsLayer, after, after_all, left, left_then, along, last_left}
 use Rattle.history.proofs.Steps.{Shows, step-shows}
@@ -33,10 +32,10 @@ module _ {kind : Kind} (l : Layer) (steps : List (Step kind)) (start : IsLayer k
   layer-after-history = let last = shows-after (record { high = 0; low = 0 }) in record { bytes = last.bytes; sound = last.sound }
 
   -- and get answers of each cell what the last step that touched it left of it
-  pub get-after-history : (id : List ℕ) (c : Cell) → from_bytes_of id ≡ cell.Is c → held_in (width_of kind) (after_all steps l).table (after_all steps l).count id ≡ of_held (last_left c steps l)
+  pub get-after-history : (id : List ℕ) (c : Cell) → from_bytes_of id ≡ Ok c → held_in (width_of kind) (after_all steps l).table (after_all steps l).count id ≡ Ok (last_left c steps l)
   get-after-history id c read =
       let last = shows-after c in
       let w = width_of kind in
       let t = (after_all steps l).table in
       let n = (after_all steps l).count in
-      get-of-rows w t n (rows_of w t n) id c (record { bytes = last.bytes; sound = last.sound; rows = refl }) read ∙ ap of_held last.holds
+      get-of-rows w t n (rows_of w t n) id c (record { bytes = last.bytes; sound = last.sound; rows = refl }) read ∙ ap Ok last.holds

@@ -1,11 +1,11 @@
 -- A history, computed: a flag table with room for one record is set, refused another cell, set again, emptied, set with the other cell, refused a cell of 15 bytes, and loaded. A value table is
 -- set and rolled up into.
-use Rattle.std.specs.Prelude.{Some, None}
 use mathlib.Core.Path.{◌≡◌, refl}
 use mathlib.Core.List.{List, [], ◌∷◌, ◌++◌, flat_map, map}
 use Prim.Native.Nat.{ℕ}
 use lib.Ieee.{of_int, to_bits}
 use lib.ListN.{replicate}
+use Rattle.std.specs.Prelude.{Some, None}
 use Rattle.refusal.specs.Refusals.{raw_of}
 use Rattle.refusal.specs.declared.Cell.{Cell}
 use Rattle.words.specs.Word.{number, ordered, word, low_digits, bytes_of}

@@ -3,15 +3,15 @@ use mathlib.Core.Path.{◌≡◌, refl, sym, ap₂, subst, ◌∙◌}
 use mathlib.Core.Bool.{Bool, true, false, cond, ◌&&◌, and-eq-true_iff}
 use mathlib.Core.List.{List, [], ◌∷◌, map}
 use Prim.Native.Nat.{ℕ, ◌-◌, ◌/◌, ◌%◌, ◌^◌, ◌<◌}
-use native.Mathlib.Omega.{arith}
 use lib.Dec.{T, eqb}
 use lib.IntN.{pos}
 use lib.ListN.{length}
 use lib.Ieee.{Float, binary64, fits, add, div, of_int, of_bits, to_bits}
 use lib.Ieee.Bits.{to_bits-lt, of_bits-fits}
 use lib.Ieee.Fits.{add-fits, div-fits, of_int-fits, cond-fits}
-use Rattle.cell.specs.declared.CellAnswer.{CellAnswer}
-use Rattle.cell.specs.declared.CellAnswer.TheVariants as cell
+use Rattle.std.specs.Prelude.{Option, Some, None, Result, Ok, Err}
+use Rattle.refusal.specs.declared.Cell.{Cell}
+use Rattle.refusal.specs.declared.Refusal.{Refusal}
 use Rattle.cell.specs.Cell.{less_cell, parent_of}
 use Rattle.cell.specs.Terms.{Words}
 use Rattle.cell.proofs.Ancestors.{parent-words}
@@ -21,9 +21,9 @@ use Rattle.sorting.specs.Groups.{Group, numbers_of, last_row, groups_of}
 use Rattle.sorting.proofs.GroupLaws.{GroupsStorable, no-groups, one-group, groups-ascending, groups-storable}
 use Rattle.aggregate.specs.declared.Aggregation.{Aggregation}
 use Rattle.aggregate.specs.declared.Aggregation.TheVariants.{Count, Sum, Mean, Min, Max, Median}
-use Rattle.aggregate.specs.declared.Aggregated.TheVariants.{Number, HasNan}
+use Rattle.aggregate.specs.declared.NoNumber.TheVariants.{HasNan}
 use Rattle.aggregate.specs.Aggregate.{any_nan, sum_from, sum_of, count_of, least_of, greatest_of, kth_of, median_of, number_by, minds, aggregate_of}
-use Rattle.rollup.specs.Rollup.{Rolled, nan_found, rolled, parent_then, parent_rows, group_then, rolled_of}
+use Rattle.rollup.specs.Rollup.{parent_then, parent_rows, group_then, rolled_of}
 
 -- ---- each aggregate is an f64
 
@@ -56,15 +56,15 @@ data Made : List Group → List Row → Type 0 where
   none_made : Made [] []
   one-made : {g : Group} {gs : List Group} {r : Row} {rs : List Row} → r.cell ≡ g.cell → r.kept < 256 ^ (24 - 16) → Made gs rs → Made (g ∷ gs) (r ∷ rs)
 
-rolled-made : (how : Aggregation) (gs : List Group) (rs : List Row) → rolled_of how gs ≡ rolled rs → Made gs rs
+rolled-made : (how : Aggregation) (gs : List Group) (rs : List Row) → rolled_of how gs ≡ Some rs → Made gs rs
 unfolding rolled_of aggregate_of
 rolled-made how [] rs e = let none : [] ≡ rs = cc in subst (Made []) none none_made
 rolled-made how (g ∷ gs) rs e = by-nan (minds how (any_nan (numbers_of g))) (rolled_of how gs) (rolled-made how gs) e
   where
-    by-nan : (nan : Bool) (more : Rolled) → ((ss : List Row) → more ≡ rolled ss → Made gs ss) → group_then g.cell (cond nan HasNan (Number (number_by how g.first g.later))) more ≡ rolled rs → Made (g ∷ gs) rs
-    by-nan true more f q = absurd (let z : ◌≡◌ {A = ℕ} 0 1 = cc in omega arith)
-    by-nan false nan_found f q = absurd (let z : ◌≡◌ {A = ℕ} 0 1 = cc in omega arith)
-    by-nan false (rolled ss) f q =
+    by-nan : (nan : Bool) (more : Option (List Row)) → ((ss : List Row) → more ≡ Some ss → Made gs ss) → group_then g.cell (cond nan (Err HasNan) (Ok (number_by how g.first g.later))) more ≡ Some rs → Made (g ∷ gs) rs
+    by-nan true more f q = absurd (cc)
+    by-nan false None f q = absurd (cc)
+    by-nan false (Some ss) f q =
         let r = keeping g.cell (to_bits binary64 (number_by how g.first g.later)) in
         let same : r ∷ ss ≡ rs = cc in
         subst (Made (g ∷ gs)) same (one-made refl (number_small how g.first g.later) (f ss refl))
@@ -88,11 +88,11 @@ unfolding parent_rows
 parents-storable [] no_rows = no_rows
 parents-storable (r ∷ rs) (one_more s a) = by-parent (parent_of r.cell) refl (parents-storable rs a)
   where
-    by-parent : (p : CellAnswer) → parent_of r.cell ≡ p → AllStorable 24 (parent_rows rs) → AllStorable 24 (parent_then p r.kept (parent_rows rs))
-    by-parent (cell.Refused why) e rest = rest
-    by-parent (cell.Is p) e rest = one_more (record { words = parent-words r.cell p s.words e; small = s.small }) rest
+    by-parent : (p : Result Cell Refusal) → parent_of r.cell ≡ p → AllStorable 24 (parent_rows rs) → AllStorable 24 (parent_then p r.kept (parent_rows rs))
+    by-parent (Err why) e rest = rest
+    by-parent (Ok p) e rest = one_more (record { words = parent-words r.cell p s.words e; small = s.small }) rest
 
-module _ (how : Aggregation) (rows rs : List Row) (made : rolled_of how (groups_of (parent_rows rows)) ≡ rolled rs) where
+module _ (how : Aggregation) (rows rs : List Row) (made : rolled_of how (groups_of (parent_rows rows)) ≡ Some rs) where
   pub rolled-ascending : ascending rs ≡ true
   rolled-ascending = made-ascending (rolled-made how (groups_of (parent_rows rows)) rs made) (groups-ascending (parent_rows rows))
 

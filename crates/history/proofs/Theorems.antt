@@ -2,10 +2,10 @@
 use mathlib.Core.List.{List}
 use mathlib.Core.Path.{◌≡◌}
 use Prim.Native.Nat.{ℕ}
+use Rattle.std.specs.Prelude.{Ok}
 use Rattle.refusal.specs.declared.Cell.{Cell}
 use Rattle.cell.specs.Bytes.{from_bytes_of}
-use Rattle.cell.specs.declared.CellAnswer.TheVariants as cell
-use Rattle.layer.specs.Calls.{of_held, held_in}
+use Rattle.layer.specs.Calls.{held_in}
 use Rattle.history.specs.History.{Kind, Step, OfBytes, AllOfBytes, after, after_all, along, IsLayer, width_of, last_left}
 use Rattle.history.proofs as laws
 use Rattle.table.specs.Records.{Layer}
@@ -25,5 +25,5 @@ layer-after-history = laws.History.layer-after-history
 -- After any history of a sound layer, `get` answers of each cell what the last step that touched it left of it, or what the layer held at first where none did.
 pub get-after-history :
     {kind : Kind} (l : Layer) (steps : List (Step kind)) (start : IsLayer kind l) (given : AllOfBytes steps) (id : List ℕ) (c : Cell)
-    → from_bytes_of id ≡ cell.Is c → held_in (width_of kind) (after_all steps l).table (after_all steps l).count id ≡ of_held (last_left c steps l)
+    → from_bytes_of id ≡ Ok c → held_in (width_of kind) (after_all steps l).table (after_all steps l).count id ≡ Ok (last_left c steps l)
 get-after-history = laws.History.get-after-history

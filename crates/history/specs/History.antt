@@ -1,27 +1,19 @@
 -- The history of a layer: any sequence of sets, removes, clears, loads and rollups into it, refused ones among them; what each leaves in the table and the count, by the calls' own
 -- definitions, and what each leaves of one cell. A refused call leaves all as it was. Over flag and value layers. Definitions only.
-use Rattle.std.specs.Prelude.{◌≡◌, true, cond, List, [], ◌∷◌, ℕ, ◌-◌, ◌^◌, ◌<◌, Option, Some, None}
+use Rattle.std.specs.Prelude.{◌≡◌, true, cond, List, [], ◌∷◌, ℕ, ◌-◌, ◌^◌, ◌<◌, Option, Some, None, Result, Ok, Err}
 use Rattle.refusal.specs.declared.Cell.{Cell}
+use Rattle.refusal.specs.declared.Refusal.{Refusal}
 use Rattle.words.specs.Word.{Bytes}
-use Rattle.cell.specs.declared.CellAnswer.{CellAnswer}
-use Rattle.cell.specs.declared.CellAnswer.TheVariants as cell
 use Rattle.cell.specs.Cell.{same_cell}
 use Rattle.cell.specs.Bytes.{from_bytes_of, cell_width}
 use Rattle.table.specs.Records.{Row, rows_of, held_of, is_sound, flag_width, value_width, Layer, layer}
 use Rattle.general.specs.Changed.{Changed}
 use Rattle.layer.specs.Changes.{set_in, remove_in, clear_in, count_by, left_by}
-use Rattle.layer.specs.declared.HeldAnswer.{HeldAnswer}
-use Rattle.layer.specs.declared.HeldAnswer.TheVariants as kept
-use Rattle.refusal.specs.declared.CountAnswer.{CountAnswer}
-use Rattle.refusal.specs.declared.CountAnswer.TheVariants as count
 use Rattle.sorting.specs.Groups.{groups_of}
 use Rattle.aggregate.specs.declared.Aggregation.{Aggregation}
-use Rattle.rollup.specs.Rollup.{Rolled, nan_found, rolled, parent_rows, rolled_of, rollup_in}
-use Rattle.file.specs.declared.FileAnswer.{FileAnswer}
-use Rattle.file.specs.declared.FileAnswer.TheVariants as accepted
+use Rattle.rollup.specs.Rollup.{parent_rows, rolled_of, rollup_in}
+use Rattle.file.specs.declared.Sections.{Sections}
 use Rattle.file.specs.File.{flag_rows, value_rows, accepted_of}
-use Rattle.survey.specs.declared.LoadAnswer.{LoadAnswer}
-use Rattle.survey.specs.declared.LoadAnswer.TheVariants as load-answer
 use Rattle.survey.specs.declared.Counts.{Counts}
 use Rattle.survey.specs.Survey.{Loading, load_of}
 
@@ -81,16 +73,16 @@ count_for flag_layer c = c.flags
 count_for value_layer c = c.values
 
 -- the count after a load: where it refuses, the one that was given
-abbrev pub loaded_by : Kind → LoadAnswer → ℕ → ℕ
-loaded_by kind (load-answer.Loaded c) n = count_for kind c
-loaded_by kind (load-answer.Refused r) n = n
+abbrev pub loaded_by : Kind → Result Counts Refusal → ℕ → ℕ
+loaded_by kind (Ok c) n = count_for kind c
+loaded_by kind (Err r) n = n
 
 -- the layer after a set or a rollup
-abbrev pub after_count : ℕ → Changed CountAnswer → Layer
+abbrev pub after_count : ℕ → Changed (Result ℕ Refusal) → Layer
 after_count n z = layer z.bytes (count_by z.said n)
 
 -- the layer after a remove
-abbrev pub after_remove : ℕ → Changed HeldAnswer → Layer
+abbrev pub after_remove : ℕ → Changed (Result (Option ℕ) Refusal) → Layer
 after_remove n z = layer z.bytes (left_by z.said n)
 
 -- the layer after a load
@@ -120,36 +112,35 @@ pub data Left : Type 0 where
   leaves : Option ℕ → Left
 
 -- a call about one cell leaves the others untouched
-abbrev pub of_cell : Cell → CellAnswer → Option ℕ → Left
-of_cell c (cell.Is d) h = cond (same_cell d c) (leaves h) untouched
-of_cell c (cell.Refused r) h = untouched
+abbrev pub of_cell : Cell → Result Cell Refusal → Option ℕ → Left
+of_cell c (Ok d) h = cond (same_cell d c) (leaves h) untouched
+of_cell c (Err r) h = untouched
 
 -- a set or a rollup that was refused touches no cell
-abbrev pub if_counted : CountAnswer → Left → Left
-if_counted (count.Cells n) x = x
-if_counted (count.Refused r) x = untouched
+abbrev pub if_counted : Result ℕ Refusal → Left → Left
+if_counted (Ok n) x = x
+if_counted (Err r) x = untouched
 
 -- nor does a remove that was refused
-abbrev pub if_held : HeldAnswer → Left → Left
-if_held (kept.Kept k) x = x
-if_held kept.Nothing x = x
-if_held (kept.Refused r) x = untouched
+abbrev pub if_held : Result (Option ℕ) Refusal → Left → Left
+if_held (Ok k) x = x
+if_held (Err r) x = untouched
 
 -- nor does a load that was refused
-abbrev pub if_loaded : LoadAnswer → Left → Left
-if_loaded (load-answer.Loaded c) x = x
-if_loaded (load-answer.Refused r) x = untouched
+abbrev pub if_loaded : Result Counts Refusal → Left → Left
+if_loaded (Ok c) x = x
+if_loaded (Err r) x = untouched
 
 -- the rows that a file has for this layer
-abbrev pub rows_for : Kind → List ℕ → FileAnswer → List Row
-rows_for flag_layer file (accepted.Has at) = flag_rows file at
-rows_for value_layer file (accepted.Has at) = value_rows file at
-rows_for kind file (accepted.Refused r) = []
+abbrev pub rows_for : Kind → List ℕ → Result Sections Refusal → List Row
+rows_for flag_layer file (Ok at) = flag_rows file at
+rows_for value_layer file (Ok at) = value_rows file at
+rows_for kind file (Err r) = []
 
 -- the rows that a rollup makes
-abbrev pub rows_of_rollup : Rolled → List Row
-rows_of_rollup nan_found = []
-rows_of_rollup (rolled rs) = rs
+abbrev pub rows_of_rollup : Option (List Row) → List Row
+rows_of_rollup None = []
+rows_of_rollup (Some rs) = rs
 
 -- set leaves what was set; remove and clear nothing; load and rollup what the file or the fine layer has of the cell
 unfoldable pub left : {kind : Kind} → Cell → Step kind → Layer → Left

@@ -5,7 +5,6 @@ use Prim.Native.Nat.{ℕ}
 use native.Mathlib.Omega.{arith}
 use lib.ListN.{replicate}
 use Rattle.words.specs.Word.{number, ordered}
-use Rattle.survey.specs.declared.WriteAnswer.TheVariants.{Written}
 use Rattle.report_text.specs.Summary.{report_of}
 use Rattle.std.specs.Prelude.{Ok, Err}
 use Rattle.input.specs.Input.{Reports}
@@ -22,7 +21,7 @@ lines =
     118 ∷ 97 ∷ 108 ∷ 117 ∷ 101 ∷ 115 ∷ 32 ∷ 48 ∷ 10 ∷ []
 
 -- the contract lets through the report on the document's file
-three-lines : (E : Type 0) → Reports {E = E} (Ok (Written 27)) (replicate 28 255) (lines ++ (255 ∷ []))
+three-lines : (E : Type 0) → Reports {E = E} (Ok (Ok 27)) (replicate 28 255) (lines ++ (255 ∷ []))
 unfolding report_of number ordered
 three-lines E = (document, (omega arith, refl))
 

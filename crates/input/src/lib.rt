@@ -5,9 +5,9 @@
 ghost use Rattle.std.specs.Io.{ReadsAtMost};
 ghost use Rattle.input.specs.Input.{Reports};
 
+use refusal::Refusal;
 use std::io::{Cursor, Read, Write};
 use std::{io, str};
-use survey::WriteAnswer;
 
 // Reads until the buffer is full or the input ends, and answers with how many bytes stand at its front.
 pub fn read_whole<R: Read>(from: &mut R, buffer: &mut [u8]) -> io::Result<usize>
@@ -25,7 +25,7 @@ pub fn read_whole<R: Read>(from: &mut R, buffer: &mut [u8]) -> io::Result<usize>
 
 // Reads a survey file and puts its report at the front of `text`, if there is room for it; where a read fails, nothing.
 // Of an input that is longer than the buffer the first bytes tell all (`longer`, report_text/proofs/Theorems.antt).
-pub fn report<R: Read>(from: &mut R, text: &mut [u8]) -> io::Result<WriteAnswer>
+pub fn report<R: Read>(from: &mut R, text: &mut [u8]) -> io::Result<Result<usize, Refusal>>
     ensures { Reports result text.old text.new }
 {
     let mut file = [0u8; 65536];

@@ -4,19 +4,16 @@
 // the address's own characters.
 #![tactic(auto)]
 
-use cell::CellAnswer;
 use refusal::Cell;
 use std::io;
 
 // What the reader of labels says of a string.
 fn print_label_refusal(rt: &HostRuntime, text: &[u8]) -> io::Result<()> {
-    match label::from_bech32m(text) {
-        CellAnswer::Refused(why) => {
-            let row = refusal::row_of(why);
-            print!(rt; "{} at {}", row.number, row.place)
-        }
-        CellAnswer::Is(_) => print!(rt; "a cell"),
-    }
+    let Err(why) = label::from_bech32m(text) else {
+        return print!(rt; "a cell");
+    };
+    let row = refusal::row_of(why);
+    print!(rt; "{} at {}", row.number, row.place)
 }
 
 // One string, and whether it is valid by BIP 350.

@@ -5,15 +5,14 @@
 use std::env::{Env, FillError};
 use std::fs::File;
 use std::{fs, io, str};
-use survey::WriteAnswer;
 
 // Prints the report on a file that is open.
 fn print_text(rt: &HostRuntime, opened: &mut File) -> io::Result<()> {
     let mut text = [0u8; 96];
-    match input::report(opened, &mut text) {
-        Ok(WriteAnswer::Written(size)) => rt.write_all(&text[..size]),
-        _ => Ok(()),
-    }
+    let Ok(Ok(size)) = input::report(opened, &mut text) else {
+        return Ok(());
+    };
+    rt.write_all(&text[..size])
 }
 
 // The report on the file of this name, below its name.

@@ -3,7 +3,6 @@
 #![tactic(auto)]
 
 use std::io;
-use survey::WriteAnswer;
 
 // What is printed has 45,072 bytes at most (`room-enough`, rewrite_bytes/proofs/Theorems.antt), so there is always room for it here; and of an input that is longer than the
 // buffer the first bytes tell all (`longer`, there).
@@ -14,7 +13,7 @@ fn main(rt: HostRuntime) -> io::Result<()> {
         Err(why) => return input::say_failure(&rt, "rewrite: cannot read", &why),
     };
     let mut out = [0u8; 65536];
-    let WriteAnswer::Written(length) = rewrite_bytes::rewrite(&file[..size], &mut out) else {
+    let Ok(length) = rewrite_bytes::rewrite(&file[..size], &mut out) else {
         return Ok(());
     };
     rt.write_all(&out[..length]).or_else(|why| input::say_failure(

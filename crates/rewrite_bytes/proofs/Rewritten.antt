@@ -1,4 +1,5 @@
 -- What follows a load of before into tables of full room: what they hold is written as the ascending file, and a refusal is the header's.
+use Rattle.std.specs.Prelude.{Result, Ok, Err}
 use mathlib.Core.Path.{◌≡◌, refl, sym, ap, ap₂, ◌∙◌}
 use mathlib.Core.List.{List}
 use Prim.Native.Nat.{ℕ, ◌*◌}
@@ -8,12 +9,8 @@ use Rattle.refusal.specs.declared.Refusal.{Refusal}
 use Rattle.words.specs.Word.{Bytes}
 use Rattle.table.specs.Records.{most_cells}
 use Rattle.file.specs.declared.Sections.{Sections}
-use Rattle.file.specs.declared.FileAnswer.{FileAnswer}
-use Rattle.file.specs.declared.FileAnswer.TheVariants as header
 use Rattle.file.specs.File.{header_of, on_file}
 use Rattle.survey.specs.declared.Counts.{Counts}
-use Rattle.survey.specs.declared.LoadAnswer.{LoadAnswer}
-use Rattle.survey.specs.declared.LoadAnswer.TheVariants as load
 use Rattle.survey.specs.Survey.{counting, Loading, loading, written, write_of}
 use Rattle.survey.proofs.FullRoom.{flag-room, value_room}
 use Rattle.survey.proofs.RoundTrips.{write-refilled}
@@ -25,39 +22,39 @@ use Rattle.report_text.specs.Summary.{refused_line}
 use Rattle.rewrite_bytes.specs.Rewrite.{ascending_file, rewrite_of, rewrite_in}
 
 -- what is printed by what the header says
-pub by-header : (l : List ℕ) (a : FileAnswer) → header_of l ≡ a → rewrite_of l ≡ on_file refused_line (ascending_file l) a
+pub by-header : (l : List ℕ) (a : Result Sections Refusal) → header_of l ≡ a → rewrite_of l ≡ on_file refused_line (ascending_file l) a
 unfolding rewrite_of
 by-header l a read = ap (on_file refused_line (ascending_file l)) read
 
-never : {why : Refusal} {c : Counts} → load.Refused why ≡ load.Loaded c → ⊥
+never : {why : Refusal} {c : Counts} → Err why ≡ Ok c → ⊥
 never e = let z : ◌≡◌ {A = ℕ} 0 1 = cc in omega arith
 
-module _ (l f v : List ℕ) (flag-table : length f ≡ 20 * most_cells) (value-table : length v ≡ 24 * most_cells) {answer : LoadAnswer} {table other : List ℕ} (done : loading answer table other ≡ former_load_of l f v) where
-  header_refused : (told : Refusal) → header_of l ≡ header.Refused told → answer ≡ load.Refused told
+module _ (l f v : List ℕ) (flag-table : length f ≡ 20 * most_cells) (value-table : length v ≡ 24 * most_cells) {answer : Result Counts Refusal} {table other : List ℕ} (done : loading answer table other ≡ former_load_of l f v) where
+  header_refused : (told : Refusal) → header_of l ≡ Err told → answer ≡ Err told
   unfolding former_load_of
-  header_refused told read = ap (λ (x : Loading). x.said) (done ∙ ap (λ (a : FileAnswer). former_by a l f v) read)
+  header_refused told read = ap (λ (x : Loading). x.said) (done ∙ ap (λ (a : Result Sections Refusal). former_by a l f v) read)
 
-  header-accepted : (at : Sections) → header_of l ≡ header.Has at → answer ≡ load.Loaded (counting (length (former_flag_rows l at)) (length (former_value_rows l at)))
+  header-accepted : (at : Sections) → header_of l ≡ Ok at → answer ≡ Ok (counting (length (former_flag_rows l at)) (length (former_value_rows l at)))
   header-accepted at read = ap (λ (x : Loading). x.said) (done ∙ full-load l at read f v flag-table value-table)
 
   -- the load refuses what the header's tests refuse, and nothing else
-  pub refused-line : (why : Refusal) → answer ≡ load.Refused why → refused_line why ≡ rewrite_of l
+  pub refused-line : (why : Refusal) → answer ≡ Err why → refused_line why ≡ rewrite_of l
   refused-line why said = decide (header_of l) refl
     where
-      decide : (a : FileAnswer) → header_of l ≡ a → refused_line why ≡ rewrite_of l
-      decide (header.Refused told) read =
+      decide : (a : Result Sections Refusal) → header_of l ≡ a → refused_line why ≡ rewrite_of l
+      decide (Err told) read =
           let refused = header_refused told read in
           let same : why ≡ told = cc in
-          ap refused_line same ∙ sym (by-header l (header.Refused told) read)
-      decide (header.Has at) read = absurd (never (sym said ∙ header-accepted at read))
+          ap refused_line same ∙ sym (by-header l (Err told) read)
+      decide (Ok at) read = absurd (never (sym said ∙ header-accepted at read))
 
   -- what was loaded is written as the ascending file
-  pub loaded-file : Bytes l → (c : Counts) → answer ≡ load.Loaded c → (out : List ℕ) → write_of table c.flags other c.values out ≡ rewrite_in l out
+  pub loaded-file : Bytes l → (c : Counts) → answer ≡ Ok c → (out : List ℕ) → write_of table c.flags other c.values out ≡ rewrite_in l out
   loaded-file bytes c said out = decide (header_of l) refl
     where
-      decide : (a : FileAnswer) → header_of l ≡ a → write_of table c.flags other c.values out ≡ rewrite_in l out
-      decide (header.Refused told) read = absurd (never (sym (header_refused told read) ∙ said))
-      decide (header.Has at) read =
+      decide : (a : Result Sections Refusal) → header_of l ≡ a → write_of table c.flags other c.values out ≡ rewrite_in l out
+      decide (Err told) read = absurd (never (sym (header_refused told read) ∙ said))
+      decide (Ok at) read =
           let fs = former_flag_rows l at in
           let vs = former_value_rows l at in
           let loaded = header-accepted at read in
@@ -66,4 +63,4 @@ module _ (l f v : List ℕ) (flag-table : length f ≡ 20 * most_cells) (value-t
           let many = value_room f v flag-table value-table fs vs (few-flags l at read) (few-values l at read) in
           ap₂ (λ (x : Loading) (k : Counts). write_of x.flags k.flags x.values k.values out) (done ∙ full-load l at read f v flag-table value-table) counts
           ∙ write-refilled fs vs f v out (former-flags l at read bytes) (former-values l at read bytes) some many
-          ∙ ap (λ (file : List ℕ). written file out) (sym (by-header l (header.Has at) read))
+          ∙ ap (λ (file : List ℕ). written file out) (sym (by-header l (Ok at) read))

@@ -22,6 +22,7 @@ use Rattle.search.specs.Plan.{near_by, distance_bits, plan_of, endpoints}
 use Rattle.refusal.specs.Refusals.{cell_of}
 use Rattle.known.specs.Workspace.{in_rooms}
 use Rattle.general.proofs.Tests.{whether}
+use Rattle.general.proofs.Results.{err-path, err-is-no-ok}
 use Rattle.search.proofs.Shortages.{Other, OtherRefusals}
 
 -- what a cell's parity, its neighbours and its distance are refused with
@@ -35,13 +36,7 @@ own-other overflow room e = let z : ◌≡◌ {A = ℕ} 0 1 = cc in omega arith
 
 pub parity-own : (c : Coord) (r : Refusal) → parity_of c ≡ Err r → Own r
 unfolding parity_of
-parity-own c r e = whether (is_lattice_point c) (λ t. point (rw t at e)) (λ t. not-point (rw t at e))
-  where
-    point : {p : Parity} → ◌≡◌ {A = Result Parity Refusal} (Ok p) (Err r) → Own r
-    point e = absurd (let z : ◌≡◌ {A = ℕ} 0 1 = cc in omega arith)
-
-    not-point : ◌≡◌ {A = Result Parity Refusal} (Err (InvalidParity c)) (Err r) → Own r
-    not-point e = let same : InvalidParity c ≡ r = cc in subst Own same mixed
+parity-own c r e = whether (is_lattice_point c) (λ t. absurd (err-is-no-ok (sym (rw t at e)))) (λ t. subst Own (err-path (rw t at e)) mixed)
 
 pub parity-other : (c : Coord) (r : Refusal) → parity_of c ≡ Err r → Other r
 parity-other c r e = own-other (parity-own c r e)

@@ -1,5 +1,6 @@
 -- The way from the start to a cell's record, and what the last step shows, for contracts inside. Definitions only.
-use Rattle.std.specs.Prelude.{◌≡◌, true, List, [], ℕ}
+use Rattle.refusal.specs.declared.Refusal.{Refusal}
+use Rattle.std.specs.Prelude.{◌≡◌, true, List, [], ℕ, Result, Ok, Err}
 use Rattle.refusal.specs.declared.Refusal.TheVariants.{BadWorkspace}
 use Rattle.refusal.specs.Refusals.{raw_of}
 use Rattle.known.specs.Inner.Known.{cell_in}
@@ -15,13 +16,13 @@ abbrev pub way_to : Plan → List ℕ → Sizes → ℕ → List ℕ
 way_to p w z i = traced (raw_of p.start) z.count (rows_in w p.known z.known) (raw_of (cell_in w p.known i)) []
 
 -- what the last step shows: the definition's result
-abbrev pub shown : Problem → Plan → List ℕ → Step → SearchResult
-shown P p w (step.Stopped r) = none_found r
-shown P p w (step.Arrived z) = arrived P (state (rows_in w p.known z.known) [] z.count)
-shown P p w (step.Going z) = none_found BadWorkspace
+abbrev pub shown : Problem → Plan → List ℕ → Result Step Refusal → SearchResult
+shown P p w (Err r) = none_found r
+shown P p w (Ok (step.Arrived z)) = arrived P (state (rows_in w p.known z.known) [] z.count)
+shown P p w (Ok (step.Going z)) = none_found BadWorkspace
 
 -- a search that has ended: refused, or arrived with the goal among its rows
-abbrev pub Ended : Plan → List ℕ → Step → Type 0
-Ended p w (step.Stopped r) = Unit {0}
-Ended p w (step.Arrived z) = Rows w p.known z.known × (is_known (find (raw_of p.goal) (rows_in w p.known z.known)) ≡ true)
-Ended p w (step.Going z) = ⊥
+abbrev pub Ended : Plan → List ℕ → Result Step Refusal → Type 0
+Ended p w (Err r) = Unit {0}
+Ended p w (Ok (step.Arrived z)) = Rows w p.known z.known × (is_known (find (raw_of p.goal) (rows_in w p.known z.known)) ≡ true)
+Ended p w (Ok (step.Going z)) = ⊥

@@ -23,17 +23,17 @@ use Rattle.expansion.specs.declared.Plan.{Plan}
 use Rattle.expansion.specs.declared.Sizes.{Sizes}
 use Rattle.expansion.specs.declared.Step.{Step}
 use Rattle.expansion.specs.declared.Step.TheVariants as step
-use Rattle.expansion.specs.Inner.Bytes.{sizes_of, entry_to, After, and_then_in, run_in}
+use Rattle.expansion.specs.Inner.Bytes.{sizes_of, entry_to, After, onward_in, run_in}
 
 -- ---- the start
 
 -- "heuristic overflow" of the start; else it is known and waits
-abbrev pub begun_in : Plan → List ℕ → List ℕ → OrRefused ℕ → After
-begun_in p w h (refused r) = (w, h, step.Stopped r)
-begun_in p w h (is x) = (append_in (clear_in w p.known) p.known 0 p.start 0 0, push_in h 0 (entry_to x p.start 0), step.Going (sizes_of 1 1 0))
+abbrev pub begun_in : Plan → List ℕ → List ℕ → OrRefused ℕ → After Sizes
+begun_in p w h (refused r) = (w, h, Err r)
+begun_in p w h (is x) = (append_in (clear_in w p.known) p.known 0 p.start 0 0, push_in h 0 (entry_to x p.start 0), Ok (sizes_of 1 1 0))
 
 -- the start of a search, which is so far from the goal
-unfoldable pub begin_in : Plan → List ℕ → List ℕ → After
+unfoldable pub begin_in : Plan → List ℕ → List ℕ → After Sizes
 unfolding push_in
 begin_in p w h = begun_in p w h (distance_bits (distance_cells p.start p.goal))
 
@@ -42,9 +42,9 @@ abbrev pub no_bound : ℕ
 no_bound = 0xFFFF_FFFF_FFFF_FFFF
 
 -- from the start to the last step
-unfoldable pub whole_in : Plan → List Row → List ℕ → List ℕ → After
+unfoldable pub whole_in : Plan → List Row → List ℕ → List ℕ → After Step
 unfolding begin_in run_in
-whole_in p flags w h = let x = begin_in p w h in and_then_in x.0 x.1 x.2 (run_in p flags no_bound)
+whole_in p flags w h = let x = begin_in p w h in onward_in x.0 x.1 x.2 (run_in p flags no_bound)
 
 -- ---- the way back
 
@@ -91,10 +91,10 @@ goal_in p w z l (Some i) = answer_in p w z i l
 goal_in p w z l None = changed (Err BadWorkspace) l
 
 -- a refusal, or the goal; BadWorkspace where the search goes on
-abbrev pub end_in : Plan → List ℕ → Step → List ℕ → Changed (Result Route Refusal)
-end_in p w (step.Stopped r) l = changed (Err r) l
-end_in p w (step.Arrived z) l = goal_in p w z l (find_in w p.known z.known p.goal)
-end_in p w (step.Going z) l = changed (Err BadWorkspace) l
+abbrev pub end_in : Plan → List ℕ → Result Step Refusal → List ℕ → Changed (Result Route Refusal)
+end_in p w (Err r) l = changed (Err r) l
+end_in p w (Ok (step.Arrived z)) l = goal_in p w z l (find_in w p.known z.known p.goal)
+end_in p w (Ok (step.Going z)) l = changed (Err BadWorkspace) l
 
 -- ---- what is asked: lengths and bounds alone
 
@@ -105,10 +105,10 @@ pub record Sized (p : Plan) (w : List ℕ) (z : Sizes) : Type 0 where
   pub counted : z.count ≤ z.known
 
 -- a search that has arrived has its sizes within the room
-abbrev pub SizedEnd : Plan → List ℕ → Step → Type 0
-SizedEnd p w (step.Stopped r) = Unit {0}
-SizedEnd p w (step.Arrived z) = Sized p w z
-SizedEnd p w (step.Going z) = Unit {0}
+abbrev pub SizedEnd : Plan → List ℕ → Result Step Refusal → Type 0
+SizedEnd p w (Err r) = Unit {0}
+SizedEnd p w (Ok (step.Arrived z)) = Sized p w z
+SizedEnd p w (Ok (step.Going z)) = Unit {0}
 
 -- the way back from record i, which is known, is so many cells long, and the output has room for them
 pub record Writable (p : Plan) (w : List ℕ) (z : Sizes) (i cells : ℕ) (output : List ℕ) : Type 0 where

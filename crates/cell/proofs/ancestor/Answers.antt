@@ -1,8 +1,7 @@
 -- What the laws of ancestors say of a finer target, of a refused parent, of the parent and of the cell itself.
-use Rattle.std.proofs.Common.{◌≡◌, ℕ, ◌<◌, Ok, sym, ◌∙◌, arith}
+use Rattle.std.proofs.Common.{◌≡◌, Ok, sym, ◌∙◌, arith}
 use Rattle.std.proofs.lemmas.Result.{err_from_is_err_and}
-use Rattle.refusal.specs.declared.Cell.{Cell}
-use Rattle.cell.specs.Cell.{resolution_of, parent_of}
+use Rattle.cell.specs.Cell.{parent_of}
 use Rattle.cell.proofs.Ancestors.{parent-resolution, ancestor-finer, ancestor-own, ancestor-refused, ancestor-parent}
 use Rattle.cell.proofs.ancestor.Goals as goal
 

@@ -1,5 +1,5 @@
 -- The plain cells at the child places, or the refusal of these; of the finest resolution there are none.
-use Rattle.std.proofs.Common.{◌≡◌, ℕ, ◌+◌, List, map, Result, Ok, Err, sym, ap, ◌∙◌}
+use Rattle.std.proofs.Common.{◌≡◌, ℕ, ◌+◌, List, map, Result, Ok, sym, ap, ◌∙◌}
 use Rattle.std.proofs.lemmas.Result.{err_from_is_err_and}
 use borrow.Author.Tests.{ne_eqb}
 use Rattle.refusal.specs.declared.Coord.{Coord}

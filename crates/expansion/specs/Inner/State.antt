@@ -1,6 +1,7 @@
 -- The state of a search, read off its two buffers: the rows of the known cells in one, the waiting entries in the other, and beside them three numbers. What each function of the code
 -- leaves and answers is a step of the definition from the state that the bytes held. For contracts inside. Definitions only.
-use Rattle.std.specs.Prelude.{◌≡◌, true, List, map, ℕ, ◌*◌, ◌≤◌, ◌<◌, length}
+use Rattle.refusal.specs.declared.Refusal.{Refusal}
+use Rattle.std.specs.Prelude.{◌≡◌, true, List, map, ℕ, ◌*◌, ◌≤◌, ◌<◌, length, Result, Ok, Err}
 use Rattle.refusal.specs.Refusals.{raw_of}
 use Rattle.general.specs.Each.{Each}
 use Rattle.waiting.specs.Inner.Heap.{Heap}
@@ -54,32 +55,32 @@ pub record HoldsSearch (p : Plan) (w h : List ℕ) (z : Sizes) : Type 0 where
 -- ---- steps
 
 -- what a step of the code shows is the flow of the definition
-abbrev pub flow_in : Problem → Plan → List ℕ → List ℕ → Step → Flow
-flow_in P p w h (step.Going z) = going (state_in p w h z)
-flow_in P p w h (step.Stopped r) = stopped r
-flow_in P p w h (step.Arrived z) = done (arrived P (state_in p w h z))
+abbrev pub flow_in : Problem → Plan → List ℕ → List ℕ → Result Step Refusal → Flow
+flow_in P p w h (Ok (step.Going z)) = going (state_in p w h z)
+flow_in P p w h (Err r) = stopped r
+flow_in P p w h (Ok (step.Arrived z)) = done (arrived P (state_in p w h z))
 
 -- after a step the buffers hold a state of the search; where it arrived, the goal is known
-abbrev pub GoodStep : Plan → List ℕ → List ℕ → Step → Type 0
-GoodStep p w h (step.Going z) = HoldsSearch p w h z
-GoodStep p w h (step.Stopped r) = Unit {0}
-GoodStep p w h (step.Arrived z) = HoldsSearch p w h z × (is_known (find (raw_of p.goal) (rows_in w p.known z.known)) ≡ true)
+abbrev pub GoodStep : Plan → List ℕ → List ℕ → Result Step Refusal → Type 0
+GoodStep p w h (Ok (step.Going z)) = HoldsSearch p w h z
+GoodStep p w h (Err r) = Unit {0}
+GoodStep p w h (Ok (step.Arrived z)) = HoldsSearch p w h z × (is_known (find (raw_of p.goal) (rows_in w p.known z.known)) ≡ true)
 
 -- from the buffers w and h, a step of the code came to w' and h' and to the definition's flow f
-pub record StepMeets (P : Problem) (p : Plan) (w h w' h' : List ℕ) (r : Step) (f : Flow) : Type 0 where
+pub record StepMeets (P : Problem) (p : Plan) (w h w' h' : List ℕ) (r : Result Step Refusal) (f : Flow) : Type 0 where
   pub same : flow_in P p w' h' r ≡ f
   pub good : GoodStep p w' h' r
   pub workspace-length : length w' ≡ length w
   pub heap-length : length h' ≡ length h
 
 -- a run that is to pause at so many counts has come to where the definition comes after some pops; where it would go on, it is paused
-pub record RunMeetsTo (P : Problem) (p : Plan) (until : ℕ) (w h w' h' : List ℕ) (r : Step) (f : Flow) : Type 0 where
+pub record RunMeetsTo (P : Problem) (p : Plan) (until : ℕ) (w h w' h' : List ℕ) (r : Result Step Refusal) (f : Flow) : Type 0 where
   pub pops : ℕ
   pub met : StepMeets P p w h w' h' r (run P pops f)
-  pub paused : (z : Sizes) → r ≡ step.Going z → paused_in p until w' h' z ≡ true
+  pub paused : (z : Sizes) → r ≡ Ok (step.Going z) → paused_in p until w' h' z ≡ true
 
 -- the code's last step is where the definition ends, after some pops
-pub record RunMeets (P : Problem) (p : Plan) (w h w' h' : List ℕ) (r : Step) (f : Flow) : Type 0 where
+pub record RunMeets (P : Problem) (p : Plan) (w h w' h' : List ℕ) (r : Result Step Refusal) (f : Flow) : Type 0 where
   pub pops : ℕ
   pub met : StepMeets P p w h w' h' r (run P pops f)
-  pub last : (z : Sizes) → r ≡ step.Going z → ⊥
+  pub last : (z : Sizes) → r ≡ Ok (step.Going z) → ⊥

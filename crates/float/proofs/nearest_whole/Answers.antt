@@ -71,6 +71,6 @@ returns-then-x-2 c =
     ∙ ap (λ (k : ℕ). neg_ℤ (pos k)) c.whole_size-then-x-2.ensures
     ∙ integer-below c.args.x c.if-x-2.true
 
-pub returns : goal.returns
+pub returns-else-x-2 : goal.returns-else-x-2
 unfolding of_bits
-returns c = integer-zero c.args.x c.if-x.false c.if-x-2.false
+returns-else-x-2 c = integer-zero c.args.x c.if-x.false c.if-x-2.false
