@@ -9,10 +9,10 @@ use Prim.Native.Nat.{ℕ, zero, suc, ◌+◌, ◌-◌, ◌≤◌, ◌<◌}
 use native.Mathlib.Omega.{arith}
 use lib.Dec.{leb, ltb, eqb}
 use lib.ListN.{length, length-map}
-use borrow.Author.Tests.{le-leb, lt-leb, lt-ltb, le-ltb, ltb-true}
+use borrow.Author.Tests.{le-leb, lt-ltb, le-ltb, ltb-true}
 use Rattle.refusal.specs.declared.Cell.{Cell}
 use Rattle.refusal.specs.declared.Room.TheVariants as room
-use Rattle.refusal.specs.declared.Refusal.TheVariants.{NoRoom, BadWorkspace}
+use Rattle.refusal.specs.declared.Refusal.TheVariants.{NoRoom}
 use Rattle.refusal.specs.Refusals.{raw_of, cell_of}
 use Rattle.words.specs.Word.{Bytes}
 use Rattle.cell.specs.Cell.{same_cell}
@@ -119,11 +119,6 @@ pub record Counting (p : Plan) (w : List ℕ) (z : Sizes) (i at passed : ℕ) : 
   pub below : at < z.known
   pub whole : way_back p w z i ≡ way_in p w z.known (z.count - passed) at later
   pub counted : passed ≡ length later
-
-pub counting_start : {p : Plan} {w : List ℕ} {z : Sizes} {i : ℕ} → i < z.known → Counting p w z i i 0
-counting_start {p} {w} {z} {i} below =
-    let all : z.count ≡ z.count - 0 = omega arith in
-    record { later = []; below = below; whole = ap (λ (m : ℕ). way_in p w z.known m i []) all; counted = refl }
 
 module _ {p : Plan} {w : List ℕ} {z : Sizes} {i at passed : ℕ} (a : Counting p w z i at passed) where
   abbrev here : Cell
@@ -237,14 +232,6 @@ module _ {p : Plan} {w : List ℕ} {z : Sizes} {i : ℕ} {entry now : List ℕ} 
 -- ---- the answer
 
 module _ (g n : ℕ) (l : List ℕ) where
-  pub route-broken : (x : Option (List Cell)) → None ≡ length_of x → changed (Err BadWorkspace) l ≡ route_in x g n l
-  route-broken None e = refl
-  route-broken (Some cs) e = absurd (let z : ◌≡◌ {A = ℕ} 0 1 = cc in omega arith)
-
-  pub route-refused : (x : Option (List Cell)) (cells : ℕ) → Some cells ≡ length_of x → room_in l < cells → changed (Err (NoRoom room.Output)) l ≡ route_in x g n l
-  route-refused None cells e more = absurd (let z : ◌≡◌ {A = ℕ} 0 1 = cc in omega arith)
-  route-refused (Some cs) cells e more = let long : cells ≡ length cs = cc in rw (lt-leb (length cs) (room_in l) (omega arith)) refl
-
   pub route-found : (x : Option (List Cell)) (cells cost : ℕ) (out : List ℕ) → Some cells ≡ length_of x → cells ≤ room_in l → cost ≡ g → out ≡ laid_in x l
       → changed (Ok (record { cells = cells; cost = cost; expansions = n })) out ≡ route_in x g n l
   route-found None cells cost out e fits paid laid = absurd (let z : ◌≡◌ {A = ℕ} 0 1 = cc in omega arith)

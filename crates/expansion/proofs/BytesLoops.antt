@@ -149,12 +149,6 @@ module _ {p : Plan} {flags : List Row} {until : ℕ} {w₀ h₀ : List ℕ} {z�
 -- ---- a run
 
 module _ (p : Plan) (flags : List Row) (until : ℕ) (w h : List ℕ) (z : Sizes) where
-  pub run-paused : paused_in p until w h z ≡ true → run_in p flags until w h z ≡ (w, h, Ok (step.Going z))
-  unfolding run_in
-  run-paused paused =
-      let more : enough p ≡ suc (enough p - 1) = omega arith in
-      ap (λ (k : ℕ). pops_in p flags k until w h z) more ∙ pops-paused p flags (enough p - 1) until w h z paused
-
   pub run-pops : pops_in p flags (enough p) until w h z ≡ run_in p flags until w h z
   unfolding run_in
   run-pops = refl

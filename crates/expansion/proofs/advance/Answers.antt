@@ -44,8 +44,8 @@ pub enter-requires : goal.enter-requires
 enter-requires c =
     let args = c.args in
     let below = found_below args.workspace.now args.plan.known args.sizes.known _ _ _ c.look.ensures c.in-Some.is in
-    let fits = fits-closed args.plan (rows_of 20 args.flags.now args.count) args.workspace.now args.heap.now _ _ args.sizes c.requires.fits c.if-sizes.false c.close_at.auto.workspace c.pop-first.auto.heap in
-    record { fits = fits; sound = c.requires.count_value; cost = cost-small _ c.if-g-gt-INFINITY.false; row = below }
+    let fits = fits-closed args.plan (rows_of 20 args.flags.now args.count) args.workspace.now args.heap.now _ _ args.sizes c.requires.fits (omega arith) c.close_at.auto.workspace c.pop-first.auto.heap in
+    record { fits = fits; sound = c.requires.count_value; cost = cost-small _ (omega arith); row = below }
 
 pub returns-else-g-gt-INFINITY : goal.returns-else-g-gt-INFINITY
 returns-else-g-gt-INFINITY c =
@@ -55,4 +55,4 @@ returns-else-g-gt-INFINITY c =
     let rows = rows_of 20 args.flags.now args.count in
     c.enter.ensures
     ∙ sym (advance-by args.plan rows args.workspace.now args.heap.now args.sizes _ _ _ (omega (arith, c.if-sizes-eq0.false)) c.pop-first.ensures.0 c.pop-first.ensures.1 (rw c.in-Some.is at c.look.ensures)
-    ∙ popped-entered args.plan rows args.workspace.now _ args.sizes _ unclosed c.if-sizes.false _ c.g_at-g.ensures _ c.if-g-gt-INFINITY.false c.close_at.ensures)
+    ∙ popped-entered args.plan rows args.workspace.now _ args.sizes _ unclosed (omega arith) _ c.g_at-g.ensures _ (omega arith) c.close_at.ensures)

@@ -9,11 +9,11 @@ returns-then-same c = counting_ends c.loop-passed.invariant _ c.cell_at.ensures 
 
 pub returns-then-before-sizes : goal.returns-then-before-sizes
 returns-then-before-sizes c =
-    counting_broken c.loop-passed.invariant _ c.cell_at.ensures c.loop-passed-test.true (sym c.same.ensures ∙ c.if-same.false) _ c.before_at-before.ensures c.if-before-sizes.true
+    counting_broken c.loop-passed.invariant _ c.cell_at.ensures c.loop-passed-test.true (sym c.same.ensures ∙ c.if-same.false) _ c.before_at-before.ensures (omega arith)
 
 pub loop-passed-preserved : goal.loop-passed-preserved
 loop-passed-preserved c =
-    counting_next c.loop-passed.invariant _ c.cell_at.ensures c.loop-passed-test.true (sym c.same.ensures ∙ c.if-same.false) _ c.before_at-before.ensures c.if-before-sizes.false
+    counting_next c.loop-passed.invariant _ c.cell_at.ensures c.loop-passed-test.true (sym c.same.ensures ∙ c.if-same.false) _ c.before_at-before.ensures (omega arith)
 
 pub returns : goal.returns
 returns c = counting_out c.loop-passed.invariant (omega arith)
