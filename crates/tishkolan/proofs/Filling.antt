@@ -10,13 +10,18 @@ use Rattle.refusal.specs.declared.Room.TheVariants.{Output}
 use Rattle.refusal.specs.declared.Refusal.TheVariants.{NoRoom}
 use Rattle.refusal.proofs.Numbers.{refused-number}
 use Rattle.face.specs.declared.RefusalTold.{RefusalTold}
-use Rattle.face.specs.Told.{answered, told_of, Filled, filled, fronted, fill}
+use Rattle.face.specs.Told.{answered, told_of, Filled, filled, fronted, fill, fill_by}
 
 module _ {A : Type 0} (t : RefusalTold) (l out last : List A) (nought : t.number ≡ 0) where
-  pub front-filled : (o : Result (Unit {0}) Refusal) → filled t last ≡ fill o l out → (o ≡ (Ok tt)) × (last ≡ fronted l out)
-  front-filled (Err r) post = absurd (refused-number r (sym (ap (λ (s : Filled A). s.told.number) post) ∙ nought))
-  front-filled (Ok tt) post = (refl, by-room (leb (length l) (length out)) post)
-    where
-      by-room : (b : Bool) → filled t last ≡ cond b (filled answered (fronted l out)) (filled (told_of (NoRoom Output)) out) → last ≡ fronted l out
-      by-room true p = ap (λ (s : Filled A). s.out) p
-      by-room false p = absurd (refused-number (NoRoom Output) (sym (ap (λ (s : Filled A). s.told.number) p) ∙ nought))
+  by-room : (b : Bool) → filled t last ≡ cond b (filled answered (fronted l out)) (filled (told_of (NoRoom Output)) out) → last ≡ fronted l out
+  by-room true p = ap (λ (s : Filled A). s.out) p
+  by-room false p = absurd (refused-number (NoRoom Output) (sym (ap (λ (s : Filled A). s.told.number) p) ∙ nought))
+
+  pub front-filled : filled t last ≡ fill l out → last ≡ fronted l out
+  front-filled post = by-room (leb (length l) (length out)) post
+
+-- the same of an answer that may be refused: it was not
+module _ {A B : Type 0} (f : A → List B) (t : RefusalTold) (out last : List B) (nought : t.number ≡ 0) where
+  pub front-filled-by : (a : Result A Refusal) → filled t last ≡ fill_by f a out → (x : A) × (a ≡ Ok x) × (last ≡ fronted (f x) out)
+  front-filled-by (Err r) post = absurd (refused-number r (sym (ap (λ (s : Filled B). s.told.number) post) ∙ nought))
+  front-filled-by (Ok x) post = (x, refl, front-filled t (f x) out last nought post)

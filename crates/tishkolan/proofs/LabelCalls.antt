@@ -33,10 +33,10 @@ written : (l out last : List ℕ) (t : RefusalTold) → filled t last ≡ label_
 unfolding label_told
 written l out last t p nought = by-cell (from_bytes_of l) refl p
   where
-    by-cell : (a : Result Cell Refusal) → from_bytes_of l ≡ a → filled t last ≡ by_cell (unfilled out) (λ c. fill (Ok tt) (label_of c) out) a → (c : Cell) × (from_bytes_of l ≡ Ok c) × (take 37 last ≡ label_of c)
+    by-cell : (a : Result Cell Refusal) → from_bytes_of l ≡ a → filled t last ≡ by_cell (unfilled out) (λ c. fill (label_of c) out) a → (c : Cell) × (from_bytes_of l ≡ Ok c) × (take 37 last ≡ label_of c)
     by-cell (Err r) e q = absurd (refused-number r (sym (ap (λ (z : Filled ℕ). z.told.number) q) ∙ nought))
     by-cell (Ok c) e q =
-        let front = (front-filled t (label_of c) out last nought (Ok tt) q).1 in
+        let front = front-filled t (label_of c) out last nought q in
         (c, e, ap (take 37) front ∙ take_at (label_of c) (drop (length (label_of c)) out) 37 (length_label c))
 
 pub label-read-back :
@@ -64,7 +64,7 @@ label-read-alone read write nought nought' same =
     let c = m.cell in
     let words = words-read s c m.is-cell in
     let w = written (named write) write.arguments.1.0.now write.exit.1.0.now write.told write.meets nought' in
-    let is_c : Ok w.0 ≡ Ok c = sym w.1 ∙ ap from_bytes_of (same ∙ m.front) ∙ bytes-read-back c words in
+    let is_c : ◌≡◌ {A = Result Cell Refusal} (Ok w.0) (Ok c) = sym w.1 ∙ ap from_bytes_of (same ∙ m.front) ∙ bytes-read-back c words in
     let label : label_of c ≡ label_left write = ap (by_cell (λ r. label_of c) label_of) (sym is_c) ∙ sym w.2 in
     ⊎_elim (λ e. inl (e ∙ label)) (λ e. inr (e ∙ ap (map uppered) label)) ((one_label s c words).0 m.is-cell)
 

@@ -50,7 +50,7 @@ made (Ok c) t l out p nought =
     record {
       cell = c;
       is-cell = refl;
-      front = ap (take 16) (front-filled t (cell_bytes c) l out nought (Ok tt) p).1 ∙ front_bytes c (drop (length (cell_bytes c)) l);
+      front = ap (take 16) (front-filled t (cell_bytes c) l out nought p) ∙ front_bytes c (drop (length (cell_bytes c)) l);
     }
 
 read-fields : (frame resolution : ℕ) (c : Coord) (exponent flags : ℕ) (k : Cell) → ReadsBack frame resolution c exponent flags k → fields_of k ≡ fields_given frame resolution c (exponent % 16) flags

@@ -1,6 +1,5 @@
 -- A loop that stores items of k elements each, one after another, at the front of a lent list: after i turns the elements of the first i items stand there, and behind them
 -- the list as it was. Stated for any items and any k.
-use Rattle.std.specs.Prelude.{Result, Ok, Err}
 use mathlib.Core.Path.{◌≡◌, sym, ap, ◌∙◌}
 use mathlib.Core.Bool.{Bool, true, false, cond}
 use mathlib.Core.List.{List, [], ◌∷◌, ◌++◌, append-nil, flat_map}
@@ -12,7 +11,6 @@ use lib.ListN.{length, get_or, take, drop, length-append, length-drop}
 use lib.Seq.{sets, sets-eq, take-suc, take_all, take_at, drop-drop, drop-append-add, length-take-le}
 use lib.Dec.{leb}
 use borrow.Author.Tests.{le-leb, lt-leb}
-use Rattle.refusal.specs.declared.Refusal.{Refusal}
 use Rattle.refusal.specs.declared.Refusal.TheVariants.{NoRoom}
 use Rattle.refusal.specs.declared.Room.TheVariants.{Output}
 use Rattle.general.proofs.Lists.{flat_map-append}
@@ -84,17 +82,14 @@ module _ {A B : Type 0} {k : ℕ} {f : A → List B} {items : List A} {before ou
       let size : k * i ≡ length (flat_map f items) = sym (length-flat_map f k even items ∙ ap (λ (m : ℕ). k * m) (omega (arith, w.within))) in
       w.done ∙ (λ j. flat_map f (take_all i items past j) ++ drop (size j) before)
 
--- ---- a lent buffer's answer by the tests that led to it
+-- ---- a lent buffer's answer by the test of its room
 
-module _ {A : Type 0} (l out : List A) {o : Result (Unit {0}) Refusal} where
-  pub fill-refused : {t : RefusalTold} {r : Refusal} → o ≡ Err r → t ≡ told_of r → filled t out ≡ fill o l out
-  fill-refused e told = (λ i. filled (told i) out) ∙ sym (ap (λ (k : Result (Unit {0}) Refusal). fill k l out) e)
+module _ {A : Type 0} (l out : List A) where
+  fits_by : (b : Bool) → leb (length l) (length out) ≡ b → cond b (filled answered (fronted l out)) (filled (told_of (NoRoom Output)) out) ≡ fill l out
+  fits_by b room = ap (λ (roomy : Bool). cond roomy (filled answered (fronted l out)) (filled (told_of (NoRoom Output)) out)) (sym room)
 
-  fits_by : (b : Bool) → o ≡ (Ok tt) → leb (length l) (length out) ≡ b → cond b (filled answered (fronted l out)) (filled (told_of (NoRoom Output)) out) ≡ fill o l out
-  fits_by b e room = ap (λ (roomy : Bool). cond roomy (filled answered (fronted l out)) (filled (told_of (NoRoom Output)) out)) (sym room) ∙ sym (ap (λ (k : Result (Unit {0}) Refusal). fill k l out) e)
+  pub fill-no-room : {t : RefusalTold} → length out < length l → t ≡ told_of (NoRoom Output) → filled t out ≡ fill l out
+  fill-no-room short told = (λ i. filled (told i) out) ∙ fits_by false (lt-leb (length l) (length out) short)
 
-  pub fill-no-room : {t : RefusalTold} → o ≡ (Ok tt) → length out < length l → t ≡ told_of (NoRoom Output) → filled t out ≡ fill o l out
-  fill-no-room e short told = (λ i. filled (told i) out) ∙ fits_by false e (lt-leb (length l) (length out) short)
-
-  pub fill-front : {t : RefusalTold} {next : List A} → o ≡ (Ok tt) → length l ≤ length out → t ≡ answered → next ≡ fronted l out → filled t next ≡ fill o l out
-  fill-front e room told stored = (λ i. filled (told i) (stored i)) ∙ fits_by true e (le-leb (length l) (length out) room)
+  pub fill-front : {t : RefusalTold} {next : List A} → length l ≤ length out → t ≡ answered → next ≡ fronted l out → filled t next ≡ fill l out
+  fill-front room told stored = (λ i. filled (told i) (stored i)) ∙ fits_by true (le-leb (length l) (length out) room)

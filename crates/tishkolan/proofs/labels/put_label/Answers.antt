@@ -21,10 +21,10 @@ copied c text out e =
 pub returns-then-out-lt-LABEL_WIDTH : goal.returns-then-out-lt-LABEL_WIDTH
 returns-then-out-lt-LABEL_WIDTH c =
     let size = length_label c.args.c in
-    fill-no-room (label_of c.args.c) c.args.out.now refl (omega arith) c.told.ensures
+    fill-no-room (label_of c.args.c) c.args.out.now (omega arith) c.into.ensures
 
 pub returns : goal.returns
 returns c =
     let size = length_label c.args.c in
-    fill-front (label_of c.args.c) c.args.out.now refl (omega arith) c.answered.ensures
+    fill-front (label_of c.args.c) c.args.out.now (omega arith) c.answered.ensures
     (c.copy_front.ensures ∙ copied c.args.c c.to_bech32m-text.result c.args.out.now c.to_bech32m-text.ensures)
