@@ -9,7 +9,7 @@ use Prim.Native.Nat.{ℕ, ◌-◌}
 use Rattle.refusal.specs.declared.Cell.{Cell}
 use Rattle.cell.specs.Bytes.{from_bytes_of}
 use Rattle.table.specs.Records.{Layer, layer}
-use Rattle.layer.specs.Calls.{of_held, held_in}
+use Rattle.layer.specs.Calls.{held_in}
 use Rattle.general.specs.Changed.{Changed, changed, saying}
 use Rattle.layer.specs.Changes.{set_in, remove_in, clear_in, count_by, left_by}
 use Rattle.aggregate.specs.declared.Aggregation.{Aggregation}
@@ -18,14 +18,14 @@ use Rattle.survey.specs.Survey.{load_of}
 use Rattle.face.specs.declared.CountTold.{CountTold}
 use Rattle.face.specs.declared.KeptTold.{KeptTold}
 use Rattle.face.specs.declared.LoadTold.{LoadTold}
-use Rattle.face.specs.Layers.{of_count}
+use Rattle.face.specs.Layers.{of_count, of_kept}
 use Rattle.face.specs.Surveys.{LoadingTold, loading_told, of_load, of_loading}
 use Rattle.face.specs.Aggregates.{aggregation_of, no_rollup, rollup_by, rollup_asked}
 use Rattle.history.specs.History.{Kind, flag_layer, value_layer, width_of, Step, set, remove, clear, load, rollup, AllOfBytes, IsLayer, loaded_by, after_count, after_remove, after_load, after, after_all, last_left}
 use Rattle.history.proofs.History.{get-after-history}
 use Rattle.face.specs.LayerAnswers.{held_told}
 use Rattle.tishkolan.proofs.Calls.{FlagsGet, ValuesGet, Handed, Calls, no-calls, set-flags, remove-flags, clear-flags, load-flags, set_value, remove-value, clear-values, load-values, rollup-values, rollup-unknown}
-use Rattle.tishkolan.proofs.LayerAnswers.{kept_by, flags-kept, value-kept, flags-removed, values-removed}
+use Rattle.tishkolan.proofs.LayerAnswers.{flags-removed, values-removed}
 
 -- ---- the count that is told is the count that the step leaves
 
@@ -33,7 +33,7 @@ count-told : (n : ℕ) (a : Result ℕ Refusal) → count_by a n ≡ (of_count n
 count-told n (Ok m) = refl
 count-told n (Err r) = refl
 
-left-told : (n : ℕ) (h : Result (Option ℕ) Refusal) → left_by h n ≡ (kept_by n (n - 1) h).count
+left-told : (n : ℕ) (h : Result (Option ℕ) Refusal) → left_by h n ≡ (of_kept n (n - 1) h).count
 left-told n (Ok (Some k)) = refl
 left-told n (Ok None) = refl
 left-told n (Err r) = refl
@@ -52,7 +52,7 @@ counted : (n : ℕ) (z : Changed (Result ℕ Refusal)) (t : CountTold) (x : List
 counted n z t x met =
     ap₂ layer (sym (ap (λ (y : Changed CountTold). y.bytes) met)) (count-told n z.said ∙ sym (ap (λ (y : Changed CountTold). y.said.count) met))
 
-removed : (n : ℕ) (z : Changed (Result (Option ℕ) Refusal)) (t : KeptTold) (x : List ℕ) → t ≡ kept_by n (n - 1) z.said → x ≡ z.bytes → after_remove n z ≡ layer x t.count
+removed : (n : ℕ) (z : Changed (Result (Option ℕ) Refusal)) (t : KeptTold) (x : List ℕ) → t ≡ of_kept n (n - 1) z.said → x ≡ z.bytes → after_remove n z ≡ layer x t.count
 removed n z t x told left = ap₂ layer (sym left) (left-told n z.said ∙ sym (ap (λ (y : KeptTold). y.count) told))
 
 module _ (kind : Kind) (l : Layer) (table : List ℕ) (n : ℕ) (handed : Handed l table n) where
@@ -60,7 +60,7 @@ module _ (kind : Kind) (l : Layer) (table : List ℕ) (n : ℕ) (handed : Handed
   unfolding after
   set-step id k t x met = ap₂ (λ (l : List ℕ) (n : ℕ). after_count n (set_in (width_of kind) l n id k)) (sym handed.0) (sym handed.1) ∙ counted n (set_in (width_of kind) table n id k) t x met
 
-  remove-step : (id : List ℕ) (t : KeptTold) (x : List ℕ) → t ≡ kept_by n (n - 1) (remove_in (width_of kind) table n id).said → x ≡ (remove_in (width_of kind) table n id).bytes → after {kind = kind} (remove id) l ≡ layer x t.count
+  remove-step : (id : List ℕ) (t : KeptTold) (x : List ℕ) → t ≡ of_kept n (n - 1) (remove_in (width_of kind) table n id).said → x ≡ (remove_in (width_of kind) table n id).bytes → after {kind = kind} (remove id) l ≡ layer x t.count
   unfolding after
   remove-step id t x told left = ap₂ (λ (l : List ℕ) (n : ℕ). after_remove n (remove_in (width_of kind) l n id)) (sym handed.0) (sym handed.1) ∙ removed n (remove_in (width_of kind) table n id) t x told left
 
@@ -95,7 +95,7 @@ module _ (l : Layer) (fine : List ℕ) (i how : ℕ) (table : List ℕ) (n : ℕ
   unfolding rollup_asked no_rollup
   rollup-refused asked =
       ap₂ layer (sym handed.0) (sym handed.1)
-      ∙ counted n (changed (no_rollup fine i) table) t x (met ∙ ap (λ (a : Option Aggregation). saying (of_count n) (rollup_by a fine i table)) asked)
+      ∙ counted n (changed (Err (no_rollup fine i)) table) t x (met ∙ ap (λ (a : Option Aggregation). saying (of_count n) (rollup_by a fine i table)) asked)
 
 -- ---- a chain of calls is a history
 
@@ -129,16 +129,16 @@ calls-after (rollup-unknown {l} {last} {steps} call handed asked rest) =
 
 -- ---- what get tells after it
 
-get-told : (n : ℕ) (h : Option ℕ) → kept_by n n (of_held h) ≡ held_told h n
+get-told : (n : ℕ) (h : Option ℕ) → of_kept n n (Ok h) ≡ held_told h n
 get-told n (Some k) = refl
 get-told n None = refl
 
 get_after : {kind : Kind} {l last : Layer} {steps : List (Step kind)} → IsLayer kind l → AllOfBytes steps → Calls kind l steps last → (table : List ℕ) (n : ℕ) → Handed last table n
-    → (id : List ℕ) (c : Cell) → from_bytes_of id ≡ Ok c → kept_by n n (held_in (width_of kind) table n id) ≡ held_told (last_left c steps l) last.count
+    → (id : List ℕ) (c : Cell) → from_bytes_of id ≡ Ok c → of_kept n n (held_in (width_of kind) table n id) ≡ held_told (last_left c steps l) last.count
 get_after {kind} {l} {last} {steps} start given calls table n handed id c read =
     let w = width_of kind in
-    ap₂ (λ (t : List ℕ) (i : ℕ). kept_by i i (held_in w t i id)) handed.0 handed.1
-    ∙ ap (kept_by last.count last.count) (ap (λ (z : Layer). held_in w z.table z.count id) (sym (calls-after calls)) ∙ get-after-history l steps start given id c read)
+    ap₂ (λ (t : List ℕ) (i : ℕ). of_kept i i (held_in w t i id)) handed.0 handed.1
+    ∙ ap (of_kept last.count last.count) (ap (λ (z : Layer). held_in w z.table z.count id) (sym (calls-after calls)) ∙ get-after-history l steps start given id c read)
     ∙ get-told last.count (last_left c steps l)
 
 -- after any calls on a sound flag layer of bytes, what get tells of a cell is what the last call that touched the cell left of it, with the count that was told last
@@ -148,7 +148,6 @@ pub flags-get-after-calls : {l last : Layer} {steps : List (Step flag_layer)} �
 flags-get-after-calls start given calls get handed c read =
     let n = get.arguments.1.0 in
     get.meets
-    ∙ flags-kept n n (held_in 20 get.arguments.0.now n get.arguments.1.1.0.now)
     ∙ get_after start given calls get.arguments.0.now n handed get.arguments.1.1.0.now c read
 
 -- and on a value layer
@@ -158,5 +157,4 @@ pub values-get-after-calls : {l last : Layer} {steps : List (Step value_layer)} 
 values-get-after-calls start given calls get handed c read =
     let n = get.arguments.1.0 in
     get.meets
-    ∙ value-kept n n (held_in 24 get.arguments.0.now n get.arguments.1.1.0.now)
     ∙ get_after start given calls get.arguments.0.now n handed get.arguments.1.1.0.now c read

@@ -16,14 +16,13 @@ use Rattle.words.specs.Word.{Bytes}
 use Rattle.cell.specs.Bytes.{cell_at, from_bytes_of}
 use Rattle.table.specs.Records.{room_for, rows_of, held_of, is_sound}
 use Rattle.table.proofs.Laws.{sound-room}
-use Rattle.layer.specs.Calls.{of_flags, of_value}
 use Rattle.general.specs.Changed.{Changed, changed, saying}
 use Rattle.layer.specs.Changes.{set_in, remove_in}
 use Rattle.layer.proofs.CallAnswers.{set-bad-list, set-bad-layer, set_new, set-no-room, set-again, remove-bad-list, remove-bad-layer, remove-kept, remove-missing, room-serves-again}
 use Rattle.face.specs.declared.CountTold.{CountTold}
 use Rattle.face.specs.declared.KeptTold.{KeptTold}
-use Rattle.face.specs.Layers.{of_count, of_flags_kept, of_value_kept, missing_told, no_kept}
-use Rattle.face.specs.LayerAnswers.{telling_count, telling_kept, LayerCase, no_cell, no-layer, new-cell, full-layer, kept-cell, set_told, remove_told}
+use Rattle.face.specs.Layers.{of_count, of_kept}
+use Rattle.face.specs.LayerAnswers.{telling_count, LayerCase, no_cell, no-layer, new-cell, full-layer, kept-cell, set_told, remove_told}
 use Rattle.tishkolan.proofs.Calls.{FlagsSet, FlagsRemove, ValuesSet, ValuesRemove}
 
 -- there is no other case
@@ -85,25 +84,9 @@ values-set-refused call refused = refused-unchanged 24 call.arguments.0.now call
 
 -- ---- remove
 
--- what is kept, told in one way of flags and values
-abbrev pub kept_by : ℕ → ℕ → Result (Option ℕ) Refusal → KeptTold
-kept_by n m (Ok (Some k)) = telling_kept 0 1 k m
-kept_by n m (Ok None) = missing_told n
-kept_by n m (Err r) = no_kept r n
-
-pub flags-kept : (n m : ℕ) (h : Result (Option ℕ) Refusal) → of_flags_kept n m (of_flags h) ≡ kept_by n m h
-flags-kept n m (Ok (Some k)) = refl
-flags-kept n m (Ok None) = refl
-flags-kept n m (Err r) = refl
-
-pub value-kept : (n m : ℕ) (h : Result (Option ℕ) Refusal) → of_value_kept n m (of_value h) ≡ kept_by n m h
-value-kept n m (Ok (Some k)) = refl
-value-kept n m (Ok None) = refl
-value-kept n m (Err r) = refl
-
-module _ (w : ℕ) (l : List ℕ) (n : ℕ) (m : List ℕ) (t : KeptTold) (x : List ℕ) (least : 16 ≤ w) (bytes : Bytes l) (said : t ≡ kept_by n (n - 1) (remove_in w l n m).said) (left : x ≡ (remove_in w l n m).bytes) where
-  told-as : {h : Result (Option ℕ) Refusal} → remove_in w l n m ≡ changed h l → t ≡ kept_by n (n - 1) h
-  told-as e = said ∙ ap (λ (z : Changed (Result (Option ℕ) Refusal)). kept_by n (n - 1) z.said) e
+module _ (w : ℕ) (l : List ℕ) (n : ℕ) (m : List ℕ) (t : KeptTold) (x : List ℕ) (least : 16 ≤ w) (bytes : Bytes l) (said : t ≡ of_kept n (n - 1) (remove_in w l n m).said) (left : x ≡ (remove_in w l n m).bytes) where
+  told-as : {h : Result (Option ℕ) Refusal} → remove_in w l n m ≡ changed h l → t ≡ of_kept n (n - 1) h
+  told-as e = said ∙ ap (λ (z : Changed (Result (Option ℕ) Refusal)). of_kept n (n - 1) z.said) e
 
   left_as : {h : Result (Option ℕ) Refusal} → remove_in w l n m ≡ changed h l → x ≡ l
   left_as e = left ∙ ap (λ (z : Changed (Result (Option ℕ) Refusal)). z.bytes) e
@@ -113,7 +96,7 @@ module _ (w : ℕ) (l : List ℕ) (n : ℕ) (m : List ℕ) (t : KeptTold) (x : L
   remove-answers (no-layer c read broken) = told-as (remove-bad-layer w l n m c read broken)
   remove-answers (new-cell c read sound new room) = told-as (remove-missing w l n m c read sound least bytes new)
   remove-answers (full-layer c read sound new full) = told-as (remove-missing w l n m c read sound least bytes new)
-  remove-answers (kept-cell c v read sound e) = said ∙ ap (kept_by n (n - 1)) (remove-kept w l n m c read sound v e)
+  remove-answers (kept-cell c v read sound e) = said ∙ ap (of_kept n (n - 1)) (remove-kept w l n m c read sound v e)
 
   remove-unchanged : (c : LayerCase w l n m) → ((remove_told c).found ≡ 1 → ⊥) → x ≡ l
   remove-unchanged (no_cell other) missing = left_as (remove-bad-list w l n m other)
@@ -127,11 +110,11 @@ module _ (w : ℕ) (l : List ℕ) (n : ℕ) (m : List ℕ) (t : KeptTold) (x : L
   missing-unchanged missing = let c = layer-case w l n m in remove-unchanged c (λ e. missing (ap (λ (z : KeptTold). z.found) (remove-answers c) ∙ e))
 
 -- the remove's equation, taken apart
-pub flags-removed : (call : FlagsRemove) → call.told ≡ kept_by call.arguments.1.0 (call.arguments.1.0 - 1) (remove_in 20 call.arguments.0.now call.arguments.1.0 call.arguments.1.1.0.now).said
-flags-removed call = ap (λ (z : Changed KeptTold). z.said) call.meets ∙ flags-kept call.arguments.1.0 (call.arguments.1.0 - 1) (remove_in 20 call.arguments.0.now call.arguments.1.0 call.arguments.1.1.0.now).said
+pub flags-removed : (call : FlagsRemove) → call.told ≡ of_kept call.arguments.1.0 (call.arguments.1.0 - 1) (remove_in 20 call.arguments.0.now call.arguments.1.0 call.arguments.1.1.0.now).said
+flags-removed call = ap (λ (z : Changed KeptTold). z.said) call.meets
 
-pub values-removed : (call : ValuesRemove) → call.told ≡ kept_by call.arguments.1.0 (call.arguments.1.0 - 1) (remove_in 24 call.arguments.0.now call.arguments.1.0 call.arguments.1.1.0.now).said
-values-removed call = ap (λ (z : Changed KeptTold). z.said) call.meets ∙ value-kept call.arguments.1.0 (call.arguments.1.0 - 1) (remove_in 24 call.arguments.0.now call.arguments.1.0 call.arguments.1.1.0.now).said
+pub values-removed : (call : ValuesRemove) → call.told ≡ of_kept call.arguments.1.0 (call.arguments.1.0 - 1) (remove_in 24 call.arguments.0.now call.arguments.1.0 call.arguments.1.1.0.now).said
+values-removed call = ap (λ (z : Changed KeptTold). z.said) call.meets
 
 -- what C is told of any remove of flags from a table of bytes
 pub flags-remove-answers : (call : FlagsRemove) → Bytes call.arguments.0.now → (x : LayerCase 20 call.arguments.0.now call.arguments.1.0 call.arguments.1.1.0.now) → call.told ≡ remove_told x
@@ -151,10 +134,10 @@ values-remove-missing call bytes missing = missing-unchanged 24 call.arguments.0
 -- ---- removed room serves again
 
 serves-again : (w : ℕ) (l : List ℕ) (n : ℕ) (m : List ℕ) (r : KeptTold) (x : List ℕ) (q : List ℕ) (k : ℕ) (t : CountTold) (y : List ℕ) (c : Cell) (v : ℕ) (d : Cell) → 16 ≤ w → Bytes l
-    → r ≡ kept_by n (n - 1) (remove_in w l n m).said → x ≡ (remove_in w l n m).bytes → changed t y ≡ saying (of_count r.count) (set_in w x r.count q k)
+    → r ≡ of_kept n (n - 1) (remove_in w l n m).said → x ≡ (remove_in w l n m).bytes → changed t y ≡ saying (of_count r.count) (set_in w x r.count q k)
     → from_bytes_of m ≡ Ok c → is_sound w l n ≡ true → held_of c (rows_of w l n) ≡ Some v → from_bytes_of q ≡ Ok d → held_of d (rows_of w x r.count) ≡ None → t ≡ telling_count 0 0 n
 serves-again w l n m r x q k t y c v d least bytes said left met read sound e other new =
-    let less : r.count ≡ n - 1 = ap (λ (z : KeptTold). z.count) (said ∙ ap (kept_by n (n - 1)) (remove-kept w l n m c read sound v e)) in
+    let less : r.count ≡ n - 1 = ap (λ (z : KeptTold). z.count) (said ∙ ap (of_kept n (n - 1)) (remove-kept w l n m c read sound v e)) in
     ap (λ (z : Changed CountTold). z.said) met
     ∙ ap (of_count r.count) (ap₂ (λ (i : ℕ) (z : List ℕ). (set_in w z i q k).said) less left ∙ room-serves-again w l n m c v q d k least bytes read other sound e (ap₂ (λ (i : ℕ) (z : List ℕ). held_of d (rows_of w z i)) (sym less) (sym left) ∙ new))
 
