@@ -24,6 +24,7 @@ pub fn of_count(given: usize, a: Result<usize, Refusal>) -> CountTold
 pub fn of_kept(given: usize, left: usize, a: Result<Option<u64>, Refusal>) -> KeptTold
     ensures { result ≡ of_kept given left a }
 {
+    let given = given as u64;
     match a {
         Ok(Some(kept)) => KeptTold {
             refusal: crate::answered(),
@@ -35,13 +36,13 @@ pub fn of_kept(given: usize, left: usize, a: Result<Option<u64>, Refusal>) -> Ke
             refusal: crate::answered(),
             found: 0,
             kept: 0,
-            count: given as u64,
+            count: given,
         },
         Err(r) => KeptTold {
             refusal: r.into(),
             found: 0,
             kept: 0,
-            count: given as u64,
+            count: given,
         },
     }
 }
