@@ -14,7 +14,7 @@ use Rattle.lattice.specs.Lattice.{at, children_of, parent_of}
 use Rattle.lattice.proofs.OneParent.{told-among-children}
 use Rattle.face.specs.declared.RefusalTold.{RefusalTold}
 use Rattle.face.specs.declared.CoordTold.{CoordTold}
-use Rattle.face.specs.Told.{of_coord, filled}
+use Rattle.face.specs.Told.{of_coord, Filled, filled, fill_by}
 use Rattle.face.specs.Points.{triple, triples, children_told}
 use Rattle.tishkolan.proofs.Places.{children-long}
 use Rattle.tishkolan.proofs.Filling.{front-filled}
@@ -37,16 +37,18 @@ triple-at {c} (d ∷ l) rest (Memᴰ.tail m) =
     (suc k, omega (arith, h.1), rw further h.2)
 
 -- over the lattice's own calls
-among : (c p : Coord) → parent_of c ≡ Ok p → (children_of p).outcome ≡ (Ok tt) → Memᴰ c (children_of p).coords
-among c p e answers = told-among-children tt (c, tt) (parent_of c) (c, tt) (p, tt) (children_of p) (p, tt) refl refl e answers
+among : (c p : Coord) (l : List Coord) → parent_of c ≡ Ok p → children_of p ≡ Ok l → Memᴰ c l
+among c p l e answers = told-among-children tt (c, tt) (parent_of c) (c, tt) (p, tt) (children_of p) (p, tt) l refl refl e answers
 
 listed : (c p : Coord) (out last : List ℤ) (t : RefusalTold) → parent_of c ≡ Ok p → filled t last ≡ children_told p out → t.number ≡ 0 → (k : ℕ) × (k < 8) × (take 3 (drop (3 * k) last) ≡ triple c)
 unfolding children_told
-listed c p out last t e post told =
-    let places = (children_of p).coords in
-    let front = front-filled t (triples places) out last told (children_of p).outcome post in
-    let h = triple-at places (drop (length (triples places)) out) (among c p e front.0) in
-    (h.0, omega (arith, h.1, children-long p), subst (λ (l : List ℤ). take 3 (drop (3 * h.0) l) ≡ triple c) (sym front.1) h.2)
+listed c p out last t e post told = by (children_of p) refl post
+  where
+    by : (a : Result (List Coord) Refusal) → children_of p ≡ a → filled t last ≡ fill_by triples a out → (k : ℕ) × (k < 8) × (take 3 (drop (3 * k) last) ≡ triple c)
+    by (Err r) f q = absurd (refused-number r (sym (ap (λ (s : Filled ℤ). s.told.number) q) ∙ told))
+    by (Ok l) f q =
+        let h = triple-at l (drop (length (triples l)) out) (among c p l e f) in
+        (h.0, omega (arith, h.1, children-long p l f), subst (λ (m : List ℤ). take 3 (drop (3 * h.0) m) ≡ triple c) (sym (front-filled t (triples l) out last told q)) h.2)
 
 -- where the parent of a place is told, and the children of the parent that was told are listed, the place stands there as one of the eight
 pub listed-under-parent : (parent : LatticeParent) (children : LatticeChildren) → parent.told.refusal.number ≡ 0 → children.told.number ≡ 0

@@ -2,7 +2,7 @@
 use Rattle.std.specs.Prelude.{Result, Ok, Err}
 use Rattle.lattice.specs.declared.Parity.{Parity}
 use Rattle.refusal.specs.declared.Refusal.{Refusal}
-use mathlib.Core.Path.{◌≡◌, refl}
+use mathlib.Core.Path.{◌≡◌, sym, ap}
 use mathlib.Core.Bool.{Bool, true, false}
 use mathlib.Core.List.{List}
 use Prim.Native.Nat.{ℕ, suc, ◌+◌}
@@ -16,6 +16,7 @@ use mir.Facts.{to_z-of_z}
 use Rattle.refusal.specs.declared.Coord.{Coord}
 use Rattle.lattice.specs.Lattice.{at, parity_of, child_steps, child_places, has_child_room, children_of}
 use Rattle.lattice.proofs.Split.{children_in, children_by}
+use Rattle.general.proofs.Results.{ok-path, err-is-no-ok}
 use Rattle.face.specs.Points.{triple}
 
 -- a place is that of its coordinates' bits
@@ -29,17 +30,16 @@ sets-three l p c =
     let two : p + 2 ≡ suc (suc p) = omega arith in
     rw (one, two)
 
--- ---- how many children there are, refused or not
+-- ---- how many children there are, where they are answered
 
-children-in : (roomy : Bool) (c : Coord) → length (children_in roomy c).coords ≡ 8
-unfolding child_places child_steps
-children-in true c = refl
-children-in false c = refl
+pub children-long : (c : Coord) (l : List Coord) → children_of c ≡ Ok l → length l ≡ 8
+unfolding children_of child_places child_steps
+children-long c l e = by-parity (parity_of c) e
+  where
+    by-room : (room : Bool) → children_in room c ≡ Ok l → length l ≡ 8
+    by-room true f = ap length (sym (ok-path f))
+    by-room false f = absurd (err-is-no-ok f)
 
-children-by : (a : Result Parity Refusal) (c : Coord) → length (children_by a c).coords ≡ 8
-children-by (Err r) c = refl
-children-by (Ok p) c = children-in (has_child_room c) c
-
-pub children-long : (c : Coord) → length (children_of c).coords ≡ 8
-unfolding children_of
-children-long c = children-by (parity_of c) c
+    by-parity : (a : Result Parity Refusal) → children_by a c ≡ Ok l → length l ≡ 8
+    by-parity (Err r) f = absurd (err-is-no-ok f)
+    by-parity (Ok p) f = by-room (has_child_room c) f
