@@ -1,7 +1,7 @@
 -- The two loops of the byte steps, over the neighbours and over the pops: what is left to do leads to the same bytes. And a run from sizes that were tested.
 use mathlib.Core.Path.{◌≡◌, refl, sym, ap, subst, ◌∙◌}
 use mathlib.Core.Bool.{Bool, true, false, ◌&&◌, true≢false}
-use mathlib.Core.List.{List, [], ◌∷◌}
+use mathlib.Core.List.{List, ◌∷◌}
 use Prim.Native.Nat.{ℕ, suc, ◌+◌, ◌-◌, ◌≤◌, ◌<◌}
 use native.Mathlib.Numerals.{add-one}
 use native.Mathlib.Omega.{arith}
@@ -11,7 +11,6 @@ use lib.Seq.{drop-cons}
 use borrow.Author.Tests.{le-leb, leb-true}
 use Rattle.std.proofs.lemmas.List.{at_drop_all}
 use Rattle.refusal.specs.declared.Cell.{Cell}
-use Rattle.refusal.specs.declared.Refusal.{Refusal}
 use Rattle.refusal.specs.declared.Refusal.TheVariants.{BadWorkspace}
 use Rattle.table.specs.Records.{Row}
 use Rattle.expansion.specs.declared.Plan.{Plan}

@@ -28,7 +28,6 @@ use Rattle.search.proofs.WaitingLaws.{waits-put}
 use Rattle.search.specs.Costs.{Cost, CostRow}
 use Rattle.search.proofs.CostsKept.{each-put}
 use Rattle.search_rows.specs.Inner.Rows.{g_in, row_in, rows_from, rows_in, RowChanged}
-use Rattle.known.proofs.Laws.{cell-words}
 use Rattle.search.specs.Plan.{plan_of}
 use Rattle.expansion.specs.declared.Plan.{Plan}
 use Rattle.expansion.specs.declared.Sizes.{Sizes}

@@ -431,9 +431,7 @@ pub fn run(
 fn is_sized(plan: Plan, sizes: Sizes) -> bool
     ensures { result ≡ is_sized plan sizes }
 {
-    sizes.known <= plan.known
-        && sizes.waiting <= plan.waiting
-        && sizes.count <= sizes.known as u64
+    sizes.known <= plan.known && sizes.waiting <= plan.waiting && sizes.count <= sizes.known as u64
 }
 
 // The same with sizes that a caller kept, and may have altered.
