@@ -1,5 +1,5 @@
-// Reads a survey file whole, for the program `rewrite` too, and reports on it, for the programs `report` and `report_files`. What a read brings
-// no contract can say; what is said of the bytes that it brought is `report_text::report`'s to promise, and is promised here of some bytes.
+// Reads a file whole, for the programs `rewrite`, `published` and `replay` too, and reports on a survey file, for the programs `report` and `report_files`. What a read
+// brings no contract can say; what is said of the bytes that it brought is `report_text::report`'s to promise, and is promised here of some bytes.
 #![tactic(auto)]
 
 ghost use Rattle.std.specs.Io.{ReadsAtMost};
