@@ -11,7 +11,7 @@ returns-clause-output_after c =
     let plan = c.args.plan in
     let words : Words plan.start = search rules in
     let found =
-        search-between plan.start plan.goal plan.known plan.waiting plan.limit plan.rule _ (sym c.same.ensures ∙ c.if-same.false) words _ _
-        (ap parity_of (sym c.coord.ensures) ∙ sym c.in_ok-parity_of.ensures)
-        (ap parity_of (sym c.coord-2.ensures) ∙ sym c.in_ok-parity_of-2.ensures) in
+    search-between plan.start plan.goal plan.known plan.waiting plan.limit plan.rule _ (sym c.same.ensures ∙ c.if-same.false) words _ _
+    (ap parity_of (sym c.coord.ensures) ∙ sym c.in_ok-parity_of.ensures)
+    (ap parity_of (sym c.coord-2.ensures) ∙ sym c.in_ok-parity_of-2.ensures) in
     c.between.ensures.output_after ∙ answers c.args.output.now found

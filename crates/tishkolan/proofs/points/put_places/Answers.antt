@@ -20,7 +20,7 @@ returns-then-out-places c = fill-no-room (triples c.args.places.now) c.args.out.
 pub returns : goal.returns
 returns c =
     fill-front (triples c.args.places.now) c.args.out.now (omega (arith, c.if-out-places.false, numbers c.args.places.now)) c.answered.ensures
-        (written_all (λ p. refl) c.loop-i.invariant c.loop-i-test.false)
+    (written_all (λ p. refl) c.loop-i.invariant c.loop-i-test.false)
 
 pub loop-i-init : goal.loop-i-init
 loop-i-init c = written_none (omega (arith, c.if-out-places.false))
