@@ -344,7 +344,7 @@ tishkolan_refusal tishkolan_cell_parent(const uint8_t *cell, size_t cell_length,
 /* The ancestor at a resolution: NO_PARENT where that is finer than the cell's; the cell
  * itself, unchanged, at its own; else INVALID_PARITY, or the parent of the parent, as
  * often as it takes; NO_ROOM 3.
- * Time and stack: so much for each resolution in between; from 255 to 0 33,000 bytes of stack. */
+ * Time: so much for each resolution in between. */
 tishkolan_refusal tishkolan_cell_ancestor(const uint8_t *cell, size_t cell_length,
                                           uint8_t resolution,
                                           uint8_t *out, size_t out_length);
