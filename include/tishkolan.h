@@ -732,8 +732,7 @@ tishkolan_count_answer tishkolan_trace_line(const uint8_t *start, size_t start_l
  * leaves all of the workspace zero, also behind those bytes.
  * Time: 14 looks among the known cells, each along a chain that is short as a rule, for each cell that
  * is expanded, those at fewer than k steps; and the zeroing of the whole workspace, however long you say
- * that it is: lend what fits.
- * Stack: 1,100 bytes. */
+ * that it is: lend what fits. */
 
 /* Waiting cells take no bytes of their own. */
 #define TISHKOLAN_RING_BYTES(known) ((size_t)44 * (known))
@@ -875,7 +874,7 @@ uint32_t tishkolan_route_choice(const uint8_t *sent, size_t sent_length,
  * cells, as in rings, and for each neighbour that is new or reached at a lower cost a look in the flag
  * layer, a root, and a place in the heap of those that wait, both by their logarithms; the zeroing of
  * both workspaces whole, however long you say that they are: lend what fits.
- * Stack: 1,500 bytes. */
+ * Stack: 1,300 bytes. */
 
 #define TISHKOLAN_SEARCH_KNOWN_BYTES(known) ((size_t)44 * (known) + 64)
 #define TISHKOLAN_SEARCH_WAITING_BYTES(waiting) ((size_t)32 * (waiting))
