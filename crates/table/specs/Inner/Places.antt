@@ -16,12 +16,6 @@ pub record HasRecord (width : ℕ) (table : List ℕ) (n i : ℕ) : Type 0 where
   pub within : i < n
   pub size : width * n ≤ length table
 
--- a table that is long enough for both records
-pub record HasBoth (width : ℕ) (table : List ℕ) (from to : ℕ) : Type 0 where
-  pub wide : Wide width
-  pub source : width * (from + 1) ≤ length table
-  pub target : width * (to + 1) ≤ length table
-
 -- a table with room for the first n records of another
 pub record Replaceable (width : ℕ) (table other : List ℕ) (n : ℕ) : Type 0 where
   pub wide : Wide width
