@@ -1,5 +1,5 @@
 -- The two kinds of layers, by the bytes of a record: 20 of a flag layer, 24 of a value layer. Definitions only.
-use Rattle.std.specs.Prelude.{Bool, true, false, List, ℕ, ◌-◌, ◌<◌, ◌^◌, Option, Some, None, Result, Ok, Err}
+use Rattle.std.specs.Prelude.{Bool, true, false, ℕ, ◌-◌, ◌<◌, ◌^◌, Option, Some, None, Result, Ok, Err}
 use Rattle.refusal.specs.declared.Refusal.{Refusal}
 use Rattle.cell.specs.Bytes.{cell_width}
 use Rattle.table.specs.Records.{flag_width, value_width}

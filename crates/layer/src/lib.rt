@@ -1,4 +1,4 @@
-// The calls on layers: keep something of a cell, look it up, list and remove it. Each is said once, over the width of a record.
+// The calls on layers: keep something of a cell, look it up, list and remove it. Each is said once, over the kind of a layer.
 #![tactic(auto)]
 
 ghost use Rattle.std.specs.Prelude.{◌≡◌};
