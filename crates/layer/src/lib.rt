@@ -88,11 +88,11 @@ pub fn clear<const KIND: bool>(table: &mut [u8])
 pub fn list<const KIND: bool>(table: &[u8], count: usize, out: &mut [u8]) -> Result<usize, Refusal>
     ensures { changed result out.new ≡ list_in (width_of KIND) table.now count out.old }
 {
-    let width = width(KIND);
-    if !table::is_sound(table, width, count) {
+    let record_width = width(KIND);
+    if !table::is_sound(table, record_width, count) {
         return Err(Refusal::BadLayer);
     }
-    let size = width * count;
+    let size = record_width * count;
     if size > out.len() {
         return Err(Refusal::NoRoom(Room::Output));
     }

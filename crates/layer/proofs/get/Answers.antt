@@ -8,4 +8,4 @@ pub returns-clause-fits : goal.returns-clause-fits
 returns-clause-fits g c =
     let args = c.args in
     let bytes : Bytes args.table.now = search rules in
-    kept-fits _ args.table.now args.count c.in_ok-c.c bytes c.width-width.ensures.value c.held.ensures
+    kept-fits _ args.table.now args.count _ bytes c.width-width.ensures.value c.held.ensures

@@ -11,4 +11,4 @@ pub returns-clause-fits : goal.returns-clause-fits
 returns-clause-fits g c =
     let args = c.args in
     let bytes : Bytes args.table.now = search rules in
-    kept-fits _ args.table.now args.count c.in_ok-c.c bytes c.width-width.ensures.value (ap (λ (z : Changed (Option ℕ)). z.said) c.remove_cell.ensures)
+    kept-fits _ args.table.now args.count _ bytes c.width-width.ensures.value (ap (λ (z : Changed (Option ℕ)). z.said) c.remove_cell.ensures)
