@@ -10,6 +10,7 @@ ghost use Rattle.bech32m.specs.Valid.{is_unprintable, is_unknown, is_of, is_mixe
 pub mod charset;
 
 // What is looked for in a string.
+// Kept: a function that takes a test asks that it can be called with any character; `first_from`, which takes a kind, asks nothing.
 #[derive(Clone, Copy)]
 pub enum Kind {
     // A letter from a to z.
