@@ -143,19 +143,33 @@ class Repo:
         return seen
 
 
+def spoken(kind):
+    """a type as it stands in the name that Rattle gives an impl: `Result<i32, Refusal>` is ResultI32Refusal"""
+    return ''.join(w[:1].upper() + w[1:] for w in re.findall(r'\w+', kind))
+
+
+def conversions(text):
+    """each `impl From<A> for B` of a source file: where its text begins and ends, its name BFromA, and what stands in its `ghost from_gives = { .. }`"""
+    for m in re.finditer(r'^( *)impl\b[^{;]*?\bFrom<([^{;]+)>\s+for\s+([^{;]+?)\s*(?:\bwhere\b[^{;]*)?\{$', text, re.M):
+        end = text.index(f'\n{m.group(1)}}}', m.end())
+        gives = re.search(r'^ +ghost from_gives = \{(.*?)\};$', text[m.end():end], re.M | re.S)
+        yield m.start(), end, f'{spoken(m.group(3))}From{spoken(m.group(2))}', ' '.join(gives.group(1).split()) if gives else ''
+
+
 class Source:
-    """a .rt file: its functions with their clauses"""
+    """a .rt file: its functions with their clauses; the `from` of an `impl From` is public, and `from_gives` is its clause"""
     def __init__(self, crate, path):
         self.crate, self.path, self.names = crate, path, {}
         self.text = open(path, encoding='utf-8').read()
         L = self.text.split('\n')
+        of = {k: (name, gives) for a, b, name, gives in conversions(self.text) for k in range(self.text.count('\n', 0, a), self.text.count('\n', 0, b) + 1)}
         self.imports, self.alias = parse_imports(L)
         self.functions, k = [], 0
         head = re.compile(r'^\s*(pub(?:\(\w+\))? )?(extern "C" )?fn (\w+)')
         while k < len(L):
             m = head.match(L[k])
             if m:
-                j, clause, ens, req, sign = k, None, [], [], []
+                first, j, clause, ens, req, sign = k, k, None, [], [], []
                 while j < len(L) and L[j].strip() != '{' and not (clause is None and j > k and L[j - 1].endswith('{')):
                     s = L[j].strip()
                     if s.startswith('ensures'): clause = ens
@@ -163,6 +177,9 @@ class Source:
                     if clause is not None and j > k: clause.append(s)
                     elif clause is None: sign.append(s)
                     j += 1
-                self.functions.append(dict(name=m.group(3), pub=bool(m.group(1)), c=bool(m.group(2)), ensures='\n'.join(ens), requires='\n'.join(req), signature=' '.join(sign)))
+                f = dict(name=m.group(3), pub=bool(m.group(1)), c=bool(m.group(2)), ensures='\n'.join(ens), requires='\n'.join(req), signature=' '.join(sign), converts=first in of)
+                if f['converts']:
+                    f |= dict(name=f'{of[first][0]}.{m.group(3)}', pub=True, ensures=of[first][1])
+                self.functions.append(f)
                 k = j
             k += 1

@@ -13,6 +13,9 @@ import threading
 import time
 
 ITEM = re.compile(r'^ *(?:pub )?(?:extern "C" )?fn (\w+)|^(?:pub )?(?:const|struct|enum) ', re.M)
+# A name by which a function may be called: `f(`, `.f(`, `f::<N>(`, and `f` where it is passed or named alone, as `and_then(cell::parent)`; no field.
+NAME = re.compile(r'(?<![.\w])\w+\b(?!:[^:])|(?<=\.)\w+(?=\(|::<)')
+NO_CODE = re.compile(r'//.*|^ *#\[.*\]$', re.M)  # comments, attributes
 IMPL = re.compile(r'^impl(?:<[^{]*?>)? ([^{]+?)(?: for ([^{]+?))? \{$', re.M)
 TOO_LONG = 600  # seconds: a wrong program can lead the prover's own search astray
 
@@ -58,7 +61,8 @@ def function_at(crate, file, text, place):
 
 
 def called_by(crate):
-    """for each function of a crate all those of the crate that it calls, itself among them, also through others; by their last names"""
+    """For each function of a crate all those of the crate that it calls, itself among them, also through others; by their last names.
+    `into` and `?` may call the `from` of an impl. A variable with a function's name counts too: that costs a check, and a call that is missed would hide an edit."""
     calls = {}
     for path in glob.glob(os.path.join(TOP, 'crates', crate, 'src', '**', '*.rt'), recursive=True):
         with open(path, encoding='utf-8') as f:
@@ -66,8 +70,10 @@ def called_by(crate):
         heads = list(ITEM.finditer(text)) + [None]
         for m, following in zip(heads, heads[1:]):
             if m.group(1):
-                body = text[m.end():following.start() if following else len(text)]
-                calls.setdefault(m.group(1), set()).update(re.findall(r'\b(\w+)\s*\(', body))
+                body = NO_CODE.sub('', text[m.end():following.start() if following else len(text)])
+                body = body[max(body.find('{\n'), 0):]  # no clauses before it
+                names = set(NAME.findall(body))
+                calls.setdefault(m.group(1), set()).update(names, ['from'] if 'into' in names or '?' in body else [])
     reach = {f: {f} for f in calls}
     grown = True
     while grown:

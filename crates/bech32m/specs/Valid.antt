@@ -1,5 +1,7 @@
 -- What BIP 350 calls a valid string, by the rules of BIP 173: a prefix, which it calls the human-readable part, a separator, and a data part that ends with the checksum. Definitions only.
 use Rattle.std.specs.Prelude.{Bool, false, not, ◌&&◌, List, map, Option, None, Some, ℕ, ◌+◌, eqb, leb, length, take, drop}
+use Rattle.bech32m.specs.declared.Kind.{Kind}
+use Rattle.bech32m.specs.declared.Kind.TheVariants.{Lower, Upper, Unprintable, Unknown}
 use Rattle.bech32m.specs.Text.{is_lower, is_upper, lowered, first_from, last_from, some_is}
 use Rattle.bech32m.specs.Checksum.{value_of, verified, sum_from}
 
@@ -10,6 +12,14 @@ is_unprintable b = not (leb 33 b && leb b 126)
 -- a character that stands for no value
 abbrev pub is_unknown : ℕ → Bool
 is_unknown b = eqb (value_of b) 32
+
+-- a character of this kind
+unfoldable pub is_of : Kind → ℕ → Bool
+unfolding value_of
+is_of Lower b = is_lower b
+is_of Upper b = is_upper b
+is_of Unprintable b = is_unprintable b
+is_of Unknown b = is_unknown b
 
 -- "the separator, which is always "1""
 abbrev pub is_separator : ℕ → Bool

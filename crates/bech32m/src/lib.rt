@@ -1,13 +1,27 @@
 // Bech32m, the checksum and the strings of BIP 350, over any prefix: a string is a prefix, the separator `1` and values of five bits, a character each, of which the last six are the checksum.
 #![tactic(auto)]
 
-ghost use Rattle.std.specs.Prelude.{◌≡◌, ℕ, Bool, Some, map, drop};
-ghost use Rattle.bech32m.specs.Text.{Tests, is_lower, is_upper, lowered, first_from};
+ghost use Rattle.std.specs.Prelude.{◌≡◌, Some, map, drop};
+ghost use Rattle.bech32m.specs.Text.{is_lower, is_upper, lowered, first_from};
 ghost use Rattle.bech32m.specs.Checksum.{value_of, digits, chosen, generators, step, polymod, expanded, verified};
 ghost use Rattle.bech32m.specs.Checksum.{created};
-ghost use Rattle.bech32m.specs.Valid.{is_unprintable, is_unknown, is_mixed, separator_of, is_valid_at, is_valid};
+ghost use Rattle.bech32m.specs.Valid.{is_unprintable, is_unknown, is_of, is_mixed, separator_of, is_valid_at, is_valid};
 
 pub mod charset;
+
+// What is looked for in a string.
+// Kept: a function that takes a test asks that it can be called with any character; `first_from`, which takes a kind, asks nothing.
+#[derive(Clone, Copy)]
+pub enum Kind {
+    // A letter from a to z.
+    Lower,
+    // A letter from A to Z.
+    Upper,
+    // No character from 33 to 126.
+    Unprintable,
+    // A character that stands for no value.
+    Unknown,
+}
 
 // A letter from a to z.
 pub fn is_lower(character: u8) -> bool
@@ -37,6 +51,19 @@ pub fn is_unknown(character: u8) -> bool
     charset::value_of(character) == 32
 }
 
+// Whether a character is of a kind.
+#[tactic(auto, unfolding(crate::specs::Valid::is_of))]
+pub fn is_of(kind: Kind, character: u8) -> bool
+    ensures { result ≡ is_of kind character }
+{
+    match kind {
+        Kind::Lower => is_lower(character),
+        Kind::Upper => is_upper(character),
+        Kind::Unprintable => is_unprintable(character),
+        Kind::Unknown => is_unknown(character),
+    }
+}
+
 // A letter in lower case.
 pub fn lowered(character: u8) -> u8
     ensures { result ≡ lowered character }
@@ -44,12 +71,11 @@ pub fn lowered(character: u8) -> u8
     character.to_ascii_lowercase()
 }
 
-// The first character that passes a test, from a place on.
-pub fn first_from<F: Fn(u8) -> bool>(is: F, text: &[u8], from: usize) -> Option<usize>
-    requires { F.IsAlwaysCallable is }
-    ensures { (test : ℕ → Bool) → Tests (F.post is) test → result ≡ first_from test from (drop from text.now) }
+// The first character of a kind, from a place on.
+pub fn first_from(kind: Kind, text: &[u8], from: usize) -> Option<usize>
+    ensures { result ≡ first_from (is_of kind) from (drop from text.now) }
 {
-    (from..text.len()).find(|i| is(text[*i]))
+    (from..text.len()).find(|i| is_of(kind, text[*i]))
 }
 
 // The last `1` parts prefix and data.

@@ -194,6 +194,7 @@ fn plain_all<const N: usize>(frame: u8, resolution: u8, places: [Coord; N]) -> [
 }
 
 // The 14 plain cells around a cell, of its frame and resolution, in the table's order. Parity first, then room.
+#[tactic(auto, unfolding(crate::specs::Cell::neighbors_of))]
 pub fn get_neighbors(c: Cell) -> Result<[Cell; 14], Refusal>
     ensures { result ≡ neighbors_of c }
 {

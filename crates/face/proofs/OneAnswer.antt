@@ -9,6 +9,12 @@ answered-one κs a z z' e e' p q = p ∙ sym q
 pub told-one : OneAnswer 0 here.RefusalToldFromRefusal.from.Kinds.ps here.RefusalToldFromRefusal.from.Kinds.r here.RefusalToldFromRefusal.from.Reads.Post
 told-one κs a z z' e e' p q = p ∙ sym q
 
+pub number-one : OneAnswer 0 here.number.Kinds.ps here.number.Kinds.r here.number.Reads.Post
+number-one κs a z z' e e' p q = p ∙ sym q
+
+pub no-number-one : OneAnswer 0 here.no_number.Kinds.ps here.no_number.Kinds.r here.no_number.Reads.Post
+no-number-one κs a z z' e e' p q = p ∙ sym q
+
 pub of-number-one : OneAnswer 0 here.NumberToldFromResultI32Refusal.from.Kinds.ps here.NumberToldFromResultI32Refusal.from.Kinds.r here.NumberToldFromResultI32Refusal.from.Reads.Post
 of-number-one κs a z z' e e' p q = p ∙ sym q
 
@@ -17,6 +23,12 @@ of-parity-one κs a z z' e e' p q = p ∙ sym q
 
 pub of-truth-one : OneAnswer 0 here.NumberToldFromResultBoolRefusal.from.Kinds.ps here.NumberToldFromResultBoolRefusal.from.Kinds.r here.NumberToldFromResultBoolRefusal.from.Reads.Post
 of-truth-one κs a z z' e e' p q = p ∙ sym q
+
+pub bits-one : OneAnswer 0 here.bits.Kinds.ps here.bits.Kinds.r here.bits.Reads.Post
+bits-one κs a z z' e e' p q = p ∙ sym q
+
+pub no-bits-one : OneAnswer 0 here.no_bits.Kinds.ps here.no_bits.Kinds.r here.no_bits.Reads.Post
+no-bits-one κs a z z' e e' p q = p ∙ sym q
 
 pub of-root-one : OneAnswer 0 here.BitsToldFromResultU64Refusal.from.Kinds.ps here.BitsToldFromResultU64Refusal.from.Kinds.r here.BitsToldFromResultU64Refusal.from.Reads.Post
 of-root-one κs a z z' e e' p q = p ∙ sym q

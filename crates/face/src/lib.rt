@@ -2,7 +2,7 @@
 #![tactic(auto)]
 
 ghost use Rattle.std.specs.Prelude.{◌≡◌};
-ghost use Rattle.face.specs.Told.{telling, answered, told_of, number_told, no_number, of_number, of_parity, of_truth, no_bits, of_root, of_distance};
+ghost use Rattle.face.specs.Told.{telling, answered, told_of, number_told, no_number, of_number, of_parity, of_truth, bits_told, no_bits, of_root, of_distance};
 ghost use Rattle.face.specs.Told.{of_coord, of_point};
 
 pub mod layers;
@@ -161,7 +161,7 @@ impl From<Refusal> for RefusalTold {
     }
 }
 
-fn number(n: i32) -> NumberTold
+pub fn number(n: i32) -> NumberTold
     ensures { result ≡ number_told n }
 {
     NumberTold {
@@ -170,7 +170,7 @@ fn number(n: i32) -> NumberTold
     }
 }
 
-fn no_number(r: Refusal) -> NumberTold
+pub fn no_number(r: Refusal) -> NumberTold
     ensures { result ≡ no_number r }
 {
     NumberTold {
@@ -215,7 +215,16 @@ impl From<Result<bool, Refusal>> for NumberTold {
     }
 }
 
-fn no_bits(r: Refusal) -> BitsTold
+pub fn bits(b: u64) -> BitsTold
+    ensures { result ≡ bits_told b }
+{
+    BitsTold {
+        refusal: answered(),
+        bits: b,
+    }
+}
+
+pub fn no_bits(r: Refusal) -> BitsTold
     ensures { result ≡ no_bits r }
 {
     BitsTold {
@@ -229,10 +238,7 @@ impl From<Result<u64, Refusal>> for BitsTold {
 
     fn from(a: Result<u64, Refusal>) -> BitsTold {
         match a {
-            Ok(bits) => BitsTold {
-                refusal: answered(),
-                bits,
-            },
+            Ok(b) => bits(b),
             Err(r) => no_bits(r),
         }
     }
@@ -244,10 +250,7 @@ impl From<Result<f64, Refusal>> for BitsTold {
 
     fn from(a: Result<f64, Refusal>) -> BitsTold {
         match a {
-            Ok(x) => BitsTold {
-                refusal: answered(),
-                bits: float::bits(x),
-            },
+            Ok(x) => bits(float::bits(x)),
             Err(r) => no_bits(r),
         }
     }

@@ -1,4 +1,4 @@
--- The text that a report on an input leaves: one of 84 bytes is always room enough.
+-- The text that a report on an input leaves: it stands at the front, and a text of 84 bytes is always room enough.
 use Rattle.refusal.specs.declared.Refusal.{Refusal}
 use mathlib.Core.Path.{◌≡◌, sym, ap, subst, ◌∙◌}
 use mathlib.Core.List.{List}
@@ -12,7 +12,8 @@ use denote.Param.Laws.{Laws}
 use mir.Syntax.{Dict}
 use Rattle.std.specs.declared.io.traits.Read.{Ghosts}
 use Rattle.std.specs.contracts.io.Error.{the_row as error}
-use lib.ListN.{length}
+use lib.ListN.{length, take, length-take}
+use Rattle.std.specs.Counts.{IsPrefixLen}
 use Rattle.general.specs.Changed.{Changed, changed}
 use Rattle.report_text.specs.Summary.{report_of}
 use Rattle.report_text.proofs.Room.{fitting, told-written, report-short}
@@ -21,6 +22,14 @@ use Rattle.input.specs.Input.{Reports}
 use Rattle.input.specs.Whole.{Whole}
 use Rattle.input.proofs.report.Kinds as report-kinds
 use Rattle.input.proofs.report.Reads as report
+
+-- what an answer tells is a count of bytes at the front of the text
+pub at_front : {E : Type 0} (text text' : List ℕ) {answer : Result (Result ℕ Refusal) E} {said : Result ℕ Refusal} {n : ℕ} → answer ≡ Ok said → said ≡ Ok n → Reports answer text text' → IsPrefixLen n text'
+at_front {E} text text' {n = n} reported written met =
+    let known : Reports {E = E} (Ok (Ok n)) text text' = subst (λ (x : Result (Result ℕ Refusal) E). Reports x text text') (reported ∙ ap Ok written) met in
+    let told = told-written (report_of known.0) text known.1.1 in
+    let size : n ≡ length (take n text') = told.1.0 ∙ ap length (sym told.1.1) in
+    (omega (arith, length-take n text'), size)
 
 -- where there are 84 bytes, a report is never refused
 whole : (E : Type 0) (text text' : List ℕ) (said : Result ℕ Refusal) → 84 ≤ length text → Reports {E = E} (Ok said) text text' → Whole said text'

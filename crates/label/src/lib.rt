@@ -6,6 +6,7 @@ ghost use Rattle.refusal.specs.Refusals.{raw_of, cell_of};
 ghost use Rattle.bech32m.specs.Checksum.{character_of};
 ghost use Rattle.label.specs.Label.{beginning, label_width, data_of, label_of, unlike_from, mixed_at, unknown_at, bits_in, mistyped, read_values, read_of};
 
+use bech32m::Kind;
 use refusal::{Cell, LabelFault, Mistyped, Refusal};
 
 // The characters of a label.
@@ -96,16 +97,16 @@ fn mixed_at(text: &[u8]) -> Option<usize>
     ensures { result ≡ mixed_at text.now }
 {
     if !text.is_empty() && bech32m::is_lower(text[0]) {
-        return bech32m::first_from(bech32m::is_upper, text, 0);
+        return bech32m::first_from(Kind::Upper, text, 0);
     }
-    bech32m::first_from(bech32m::is_lower, text, 0)
+    bech32m::first_from(Kind::Lower, text, 0)
 }
 
 // The first character behind the prefix that has no value.
 fn unknown_at(text: &[u8]) -> Option<usize>
     ensures { result ≡ unknown_at text.now }
 {
-    bech32m::first_from(bech32m::is_unknown, text, 5)
+    bech32m::first_from(Kind::Unknown, text, 5)
 }
 
 fn mistyped(fault: LabelFault, place: usize) -> Result<Cell, Refusal>

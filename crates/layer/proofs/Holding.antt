@@ -1,7 +1,7 @@
--- The calls on a layer are those of a map: a set and a remove lay the rows that the map has after them, get says what these keep, and the layer is sound again. Over the width of a record.
+-- The calls on a layer are those of a map: a set and a remove lay the rows that the map has after them, get says what these keep, and the layer is sound again. Over the width of a record. What is said to be kept has the bits of its kind.
 use mathlib.Core.Bool.{Bool, true, false, cond}
 use mathlib.Core.List.{List}
-use mathlib.Core.Path.{◌≡◌, refl, ap, subst, subst⁻¹, ◌∙◌}
+use mathlib.Core.Path.{◌≡◌, refl, sym, ap, subst, subst⁻¹, ◌∙◌}
 use Prim.Native.Nat.{ℕ, ◌-◌, ◌^◌, ◌≤◌, ◌<◌}
 use native.Mathlib.Omega.{arith}
 use borrow.Author.Tests.{leb-true}
@@ -9,21 +9,71 @@ use lib.Dec.{leb}
 use lib.ListN.{length}
 use Rattle.std.specs.Prelude.{Option, Some, None, Result, Ok, Err}
 use Rattle.refusal.specs.declared.Refusal.{Refusal}
-use Rattle.refusal.specs.declared.Refusal.TheVariants.{NoRoom}
+use Rattle.refusal.specs.declared.Refusal.TheVariants.{NoRoom, BadLayer}
 use Rattle.general.specs.Changed.{changed, Changed}
 use Rattle.refusal.specs.declared.Cell.{Cell}
 use Rattle.refusal.specs.declared.Room.TheVariants as room
 use Rattle.words.specs.Word.{Bytes}
-use Rattle.cell.specs.Bytes.{from_bytes_of}
+use Rattle.cell.specs.Bytes.{from_bytes_of, by_cell}
 use Rattle.cell.specs.Terms.{Words}
-use Rattle.table.specs.Records.{rows_of, is_sound, held_of, without_cell, refilled, Row, room_for, with_row, laid, keeping}
+use Rattle.table.specs.Records.{flag_width, rows_of, is_sound, held_of, without_cell, refilled, Row, room_for, with_row, laid, keeping}
 use Rattle.table.proofs.Laws.{sound-ascending, sound-room}
 use Rattle.table.proofs.Map.{with-ascending, without-ascending, length-without-held, length-without-none}
 use Rattle.table.specs.Terms.{Holds}
-use Rattle.table.proofs.Bytes.{length-rows_from, rows-storable, with-storable, without-storable}
+use Rattle.table.proofs.Bytes.{Small, held_small, length-rows_from, rows-storable, with-storable, without-storable}
 use Rattle.table.proofs.Holding.{laid-holds, refilled-holds}
 use Rattle.layer.specs.Changes.{remove_in, relaid, set_in, left_by}
 use Rattle.layer.specs.Calls.{held_in}
+use Rattle.layer.specs.Kinds.{width_of, FitsKind}
+
+-- remove says what get would have said
+pub remove-says-held : (w : ℕ) (l : List ℕ) (n : ℕ) (m : List ℕ) → (remove_in w l n m).said ≡ held_in w l n m
+unfolding remove_in held_in
+remove-says-held w l n m = by-read (from_bytes_of m)
+  where
+    by-test : (t : Bool) (h : Option ℕ) (x : List ℕ) → (cond t (changed (Ok h) x) (changed (Err BadLayer) l)).said ≡ cond t (Ok h) (Err BadLayer)
+    by-test true h x = refl
+    by-test false h x = refl
+
+    by-read : (a : Result Cell Refusal)
+        → (by_cell (λ (r : Refusal). changed (Err r) l) (λ (c : Cell). cond (is_sound w l n) (changed (Ok (held_of c (rows_of w l n))) (refilled w n (without_cell c (rows_of w l n)) l)) (changed (Err BadLayer) l)) a).said
+        ≡ by_cell Err (λ (c : Cell). cond (is_sound w l n) (Ok (held_of c (rows_of w l n))) (Err BadLayer)) a
+    by-read (Err r) = refl
+    by-read (Ok c) = by-test (is_sound w l n) (held_of c (rows_of w l n)) (refilled w n (without_cell c (rows_of w l n)) l)
+
+-- ---- what is said to be kept has the bits of its kind
+
+small-fits : (kind : Bool) (h : Option ℕ) → Small (width_of kind) h → FitsKind kind (Ok h)
+small-fits kind None p = tt
+small-fits kind (Some k) p = p
+
+-- what the rows of a table keep of a cell
+pub kept-fits : (kind : Bool) (l : List ℕ) (n : ℕ) (c : Cell) {w : ℕ} {h : Option ℕ} → Bytes l → w ≡ width_of kind → h ≡ held_of c (rows_of w l n) → FitsKind kind (Ok h)
+unfolding rows_of
+kept-fits kind l n c {w} {h} bytes width e =
+    let rows = rows_of w l n in
+    small-fits kind h (subst (λ (v : ℕ). Small v h) width (subst⁻¹ (Small w) e (held_small w c rows (rows-storable w l 0 n bytes))))
+
+-- what get says
+pub held-fits : (kind : Bool) (l : List ℕ) (n : ℕ) (m : List ℕ) → Bytes l → FitsKind kind (held_in (width_of kind) l n m)
+unfolding held_in
+held-fits kind l n m bytes = by-read (from_bytes_of m)
+  where
+    by-test : (t : Bool) (h : Option ℕ) → FitsKind kind (Ok h) → FitsKind kind (cond t (Ok h) (Err BadLayer))
+    by-test true h p = p
+    by-test false h p = tt
+
+    by-read : (a : Result Cell Refusal) → FitsKind kind (by_cell Err (λ (c : Cell). cond (is_sound (width_of kind) l n) (Ok (held_of c (rows_of (width_of kind) l n))) (Err BadLayer)) a)
+    by-read (Err r) = tt
+    by-read (Ok c) = by-test (is_sound (width_of kind) l n) (held_of c (rows_of (width_of kind) l n)) (kept-fits kind l n c bytes refl refl)
+
+-- flags are below 2^32
+pub flags-low : (l : List ℕ) → Bytes l → (n : ℕ) (m : List ℕ) {a : Result (Option ℕ) Refusal} {k : ℕ} → a ≡ held_in flag_width l n m → a ≡ Ok (Some k) → k < 4294967296
+flags-low l bytes n m e known = subst (FitsKind false) (sym e ∙ known) (held-fits false l n m bytes)
+
+-- and so are those that were removed
+pub removed-low : (l : List ℕ) (n : ℕ) (m : List ℕ) {r : Result (Option ℕ) Refusal} {x : List ℕ} {k : ℕ} → Bytes l → changed r x ≡ remove_in flag_width l n m → r ≡ Ok (Some k) → k < 4294967296
+removed-low l n m bytes e known = flags-low l bytes n m (ap (λ (z : Changed (Result (Option ℕ) Refusal)). z.said) e ∙ remove-says-held flag_width l n m) known
 
 -- what get answers of them
 pub get-of-rows : (w : ℕ) (l : List ℕ) (n : ℕ) (rs : List Row) (m : List ℕ) (c : Cell) → Holds w l n rs → from_bytes_of m ≡ Ok c → held_in w l n m ≡ Ok (held_of c rs)

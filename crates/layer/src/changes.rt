@@ -5,7 +5,9 @@ ghost use Rattle.table.specs.Inner.Places.{Wide};
 ghost use Rattle.general.specs.Changed.{changed};
 ghost use Rattle.layer.specs.Changes.{relaid, set_in, remove_in};
 ghost use Rattle.layer.specs.Inner.Insert.{Insertable};
+ghost use Rattle.layer.specs.Kinds.{width_of, FitsKind};
 
+use crate::width;
 use refusal::{Cell, Refusal, Room};
 
 // A new cell at its place in a sound layer, if there is room for one more.
@@ -51,20 +53,20 @@ fn set_cell(
 
 // What is kept of a cell that is given by its 16 bytes from now on; the answer is how many cells the layer has.
 #[tactic(auto, unfolding(crate::specs::Changes::set_in))]
-pub fn set<const WIDTH: usize>(
+pub fn set<const KIND: bool>(
     table: &mut [u8],
     count: usize,
     cell: &[u8],
     kept: u64,
 ) -> Result<usize, Refusal>
-    requires { Wide WIDTH }
-    ensures { changed result table.new ≡ set_in WIDTH table.old count cell.now kept }
+    ensures { changed result table.new ≡ set_in (width_of KIND) table.old count cell.now kept }
 {
     let c = cell::from_bytes(cell)?;
-    if !table::is_sound(table, WIDTH, count) {
+    let width = width(KIND);
+    if !table::is_sound(table, width, count) {
         return Err(Refusal::BadLayer);
     }
-    set_cell(table, WIDTH, count, c, kept)
+    set_cell(table, width, count, c, kept)
 }
 
 // A cell removed from a sound layer; what was kept of it, if anything.
@@ -87,17 +89,18 @@ fn remove_cell(table: &mut [u8], width: usize, count: usize, c: Cell) -> Option<
 
 // A cell that is given by its 16 bytes removed from a layer; what was kept of it, if anything.
 #[tactic(auto, unfolding(crate::specs::Changes::remove_in))]
-pub fn remove<const WIDTH: usize>(
+pub fn remove<const KIND: bool>(
     table: &mut [u8],
     count: usize,
     cell: &[u8],
 ) -> Result<Option<u64>, Refusal>
-    requires { Wide WIDTH }
-    ensures { changed result table.new ≡ remove_in WIDTH table.old count cell.now }
+    ensures value { changed result table.new ≡ remove_in (width_of KIND) table.old count cell.now }
+    ensures fits { FitsKind KIND result }
 {
     let c = cell::from_bytes(cell)?;
-    if !table::is_sound(table, WIDTH, count) {
+    let width = width(KIND);
+    if !table::is_sound(table, width, count) {
         return Err(Refusal::BadLayer);
     }
-    Ok(remove_cell(table, WIDTH, count, c))
+    Ok(remove_cell(table, width, count, c))
 }

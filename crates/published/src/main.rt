@@ -25,7 +25,8 @@ fn print_string(rt: &HostRuntime, text: &[u8], published: bool) -> io::Result<()
         "DIFFERS"
     };
     let said = if valid { "valid" } else { "not valid" };
-    print!(rt; "{agrees}, {said}, ")?;
+    print!(rt; "{agrees}, ")?;
+    print!(rt; "{said}, ")?;
     print_label_refusal(rt, text)?;
     print!(rt; ": ")?;
     rt.write_all(text)

@@ -7,6 +7,9 @@ use tishkolan::{paths, rings};
 // Whether the record's call says and writes what the record expects: the bytes lent of the output have its check number. What has no call's number agrees
 // with nothing.
 pub fn agrees(record: &Record) -> bool {
+    if !matches!(record[0], 1..=3) {
+        return false;
+    }
     let mut workspace = [lent::BEFORE; 65536];
     let mut output = [lent::BEFORE; 65536];
     let first = recorded::cell(record, 8, 1);

@@ -26,6 +26,9 @@ fn same_told(expected: &Record, told: SearchTold) -> bool {
 // Whether the record's call says what is expected, its output begins with the route, and the rest of what it was lent is as it has to be. What has no call's
 // number agrees with nothing.
 fn call_agrees(record: &Record, expected: &Record, flags: &[u8], route: &[u8]) -> bool {
+    if !matches!(record[0], 1..=2) {
+        return false;
+    }
     let mut known_workspace = [lent::BEFORE; 65536];
     let mut waiting_workspace = [lent::BEFORE; 65536];
     let mut output = [lent::BEFORE; 65536];

@@ -35,6 +35,8 @@ pub fn room_for(table: &[u8], width: usize) -> usize
 }
 
 // The index of the first record whose cell is not above that of the one before it, and `count` where there is none; each cell is read once.
+// Not inlined: within a survey's load the loop would keep the two cells on the stack, and take half as long again.
+#[inline(never)]
 pub fn first_fall(table: &[u8], width: usize, count: usize) -> usize
     requires wide { Wide width }
     requires count_in_bounds { width * count ≤ length table.now }

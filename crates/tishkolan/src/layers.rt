@@ -8,7 +8,7 @@ ghost use Rattle.face.specs.Told.{of_truth};
 ghost use Rattle.table.specs.Records.{flag_width, value_width};
 
 use face::{CountTold, KeptTold, NumberTold};
-use table::{FLAG_WIDTH, VALUE_WIDTH};
+use layer::{FLAGS, VALUES};
 
 // The flags of a cell from now on.
 pub fn tishkolan_flags_set(table: &mut [u8], count: usize, cell: &[u8], flags: u32) -> CountTold
@@ -16,7 +16,7 @@ pub fn tishkolan_flags_set(table: &mut [u8], count: usize, cell: &[u8], flags: u
 {
     face::layers::of_count(
         count,
-        layer::changes::set::<FLAG_WIDTH>(table, count, cell, u64::from(flags)),
+        layer::changes::set::<FLAGS>(table, count, cell, u64::from(flags)),
     )
 }
 
@@ -24,7 +24,7 @@ pub fn tishkolan_flags_set(table: &mut [u8], count: usize, cell: &[u8], flags: u
 pub fn tishkolan_flags_get(table: &[u8], count: usize, cell: &[u8]) -> KeptTold
     ensures { result ≡ of_kept count count (held_in flag_width table.now count cell.now) }
 {
-    face::layers::of_kept(count, count, layer::get::<FLAG_WIDTH>(table, count, cell))
+    face::layers::of_kept(count, count, layer::get::<FLAGS>(table, count, cell))
 }
 
 // A cell forgotten, and what was kept of it.
@@ -35,7 +35,7 @@ pub fn tishkolan_flags_remove(table: &mut [u8], count: usize, cell: &[u8]) -> Ke
     face::layers::of_kept(
         count,
         count.saturating_sub(1),
-        layer::changes::remove::<FLAG_WIDTH>(table, count, cell),
+        layer::changes::remove::<FLAGS>(table, count, cell),
     )
 }
 
@@ -43,35 +43,35 @@ pub fn tishkolan_flags_remove(table: &mut [u8], count: usize, cell: &[u8]) -> Ke
 pub fn tishkolan_flags_contains(table: &[u8], count: usize, cell: &[u8]) -> NumberTold
     ensures { result ≡ of_truth (of_contains (held_in flag_width table.now count cell.now)) }
 {
-    layer::contains::<FLAG_WIDTH>(table, count, cell).into()
+    layer::contains::<FLAGS>(table, count, cell).into()
 }
 
 // How many cells a flag layer has.
 pub fn tishkolan_flags_count(table: &[u8], count: usize) -> CountTold
     ensures { result ≡ of_count count (count_in flag_width table.now count) }
 {
-    face::layers::of_count(count, layer::count::<FLAG_WIDTH>(table, count))
+    face::layers::of_count(count, layer::count::<FLAGS>(table, count))
 }
 
 // Whether a flag layer has no cells.
 pub fn tishkolan_flags_is_empty(table: &[u8], count: usize) -> NumberTold
     ensures { result ≡ of_truth (empty_in flag_width table.now count) }
 {
-    layer::is_empty::<FLAG_WIDTH>(table, count).into()
+    layer::is_empty::<FLAGS>(table, count).into()
 }
 
 // A flag layer without cells.
 pub fn tishkolan_flags_clear(table: &mut [u8])
     ensures { table.new ≡ clear_in flag_width table.old }
 {
-    layer::clear::<FLAG_WIDTH>(table);
+    layer::clear::<FLAGS>(table);
 }
 
 // The records of a flag layer.
 pub fn tishkolan_flags_list(table: &[u8], count: usize, out: &mut [u8]) -> CountTold
     ensures { changed result out.new ≡ saying (of_count count) (list_in flag_width table.now count out.old) }
 {
-    face::layers::of_count(count, layer::list::<FLAG_WIDTH>(table, count, out))
+    face::layers::of_count(count, layer::list::<FLAGS>(table, count, out))
 }
 
 // The bits of a cell's value from now on.
@@ -80,7 +80,7 @@ pub fn tishkolan_values_set(table: &mut [u8], count: usize, cell: &[u8], bits: u
 {
     face::layers::of_count(
         count,
-        layer::changes::set::<VALUE_WIDTH>(table, count, cell, bits),
+        layer::changes::set::<VALUES>(table, count, cell, bits),
     )
 }
 
@@ -88,7 +88,7 @@ pub fn tishkolan_values_set(table: &mut [u8], count: usize, cell: &[u8], bits: u
 pub fn tishkolan_values_get(table: &[u8], count: usize, cell: &[u8]) -> KeptTold
     ensures { result ≡ of_kept count count (held_in value_width table.now count cell.now) }
 {
-    face::layers::of_kept(count, count, layer::get::<VALUE_WIDTH>(table, count, cell))
+    face::layers::of_kept(count, count, layer::get::<VALUES>(table, count, cell))
 }
 
 // A cell forgotten, and what was kept of it.
@@ -99,7 +99,7 @@ pub fn tishkolan_values_remove(table: &mut [u8], count: usize, cell: &[u8]) -> K
     face::layers::of_kept(
         count,
         count.saturating_sub(1),
-        layer::changes::remove::<VALUE_WIDTH>(table, count, cell),
+        layer::changes::remove::<VALUES>(table, count, cell),
     )
 }
 
@@ -107,33 +107,33 @@ pub fn tishkolan_values_remove(table: &mut [u8], count: usize, cell: &[u8]) -> K
 pub fn tishkolan_values_contains(table: &[u8], count: usize, cell: &[u8]) -> NumberTold
     ensures { result ≡ of_truth (of_contains (held_in value_width table.now count cell.now)) }
 {
-    layer::contains::<VALUE_WIDTH>(table, count, cell).into()
+    layer::contains::<VALUES>(table, count, cell).into()
 }
 
 // How many cells a value layer has.
 pub fn tishkolan_values_count(table: &[u8], count: usize) -> CountTold
     ensures { result ≡ of_count count (count_in value_width table.now count) }
 {
-    face::layers::of_count(count, layer::count::<VALUE_WIDTH>(table, count))
+    face::layers::of_count(count, layer::count::<VALUES>(table, count))
 }
 
 // Whether a value layer has no cells.
 pub fn tishkolan_values_is_empty(table: &[u8], count: usize) -> NumberTold
     ensures { result ≡ of_truth (empty_in value_width table.now count) }
 {
-    layer::is_empty::<VALUE_WIDTH>(table, count).into()
+    layer::is_empty::<VALUES>(table, count).into()
 }
 
 // A value layer without cells.
 pub fn tishkolan_values_clear(table: &mut [u8])
     ensures { table.new ≡ clear_in value_width table.old }
 {
-    layer::clear::<VALUE_WIDTH>(table);
+    layer::clear::<VALUES>(table);
 }
 
 // The records of a value layer.
 pub fn tishkolan_values_list(table: &[u8], count: usize, out: &mut [u8]) -> CountTold
     ensures { changed result out.new ≡ saying (of_count count) (list_in value_width table.now count out.old) }
 {
-    face::layers::of_count(count, layer::list::<VALUE_WIDTH>(table, count, out))
+    face::layers::of_count(count, layer::list::<VALUES>(table, count, out))
 }

@@ -1,9 +1,9 @@
 -- The laws of words: what stands where a word was stored, what stands elsewhere, and what the bytes of a word are.
--- Each is stated once, over the width, and over the order but for a word of two words.
+-- Each is stated once, over the width, and over the order but for a word of two words, where the order is what matters.
 use mathlib.Core.Path.{◌≡◌, refl, sym, ap, ◌∙◌}
 use mathlib.Core.List.{List, [], ◌∷◌, ◌++◌, reverse_aux, reverse-append, reverse-reverse, append_assoc}
 use Prim.Native.Nat.{ℕ, zero, suc, ◌+◌, ◌-◌, ◌*◌, ◌/◌, ◌%◌, ◌^◌, ◌≤◌, ◌<◌}
-use native.Mathlib.Nat.{min-le_left, lt_of_lt_of_le, pow-le-pow_right, pow-suc, pow-succ', zero-add, suc-add, div-one, div-div-eq-div-mul, div-lt_iff_lt-mul, mod-add-div, mul_assoc, add-zero, add-suc}
+use native.Mathlib.Nat.{min-le_left, lt_of_lt_of_le, pow-le-pow_right, pow-suc, pow-succ', zero-add, suc-add, div-one, div-div-eq-div-mul, div-lt_iff_lt-mul, mod-add-div, mul_assoc, add-zero, add-suc, add_comm}
 use native.Mathlib.Decide.{dec_le}
 use native.Mathlib.Omega.{arith}
 use lib.ListN.{length, set, take, drop, replicate, length-take, length-drop, length-reverse, take-append-drop}
@@ -286,10 +286,25 @@ pub stored-mod : (o : Order) (n : ℕ) (l : List ℕ) (p v : ℕ) → stored o n
 unfolding stored bytes_of
 stored-mod o n l p v = rw digits_mod
 
--- ---- a word of two words: in a big-endian one the first of the two is the higher
+-- ---- a word of two words: the order says which of the two is the higher
 
 pub word-split-big : (n m : ℕ) (l : List ℕ) (p : ℕ) → p + n + m ≤ length l → word big (n + m) l p ≡ word big m l (p + n) + 256 ^ m * word big n l p
 unfolding word ordered
 word-split-big n m l p h =
     let long : length (take m (drop (p + n) l)) ≡ m = length-take-le m (drop (p + n) l) (rw length-drop (omega arith)) in
     rw (take-add n m (drop p l), drop-drop n p l, reverse-append, number_append, length-reverse, long)
+
+pub word-split-little : (n m : ℕ) (l : List ℕ) (p : ℕ) → p + n + m ≤ length l → word little (n + m) l p ≡ word little n l p + 256 ^ n * word little m l (p + n)
+unfolding word ordered
+word-split-little n m l p h =
+    let long : length (take n (drop p l)) ≡ n = length-take-le n (drop p l) (rw length-drop (omega arith)) in
+    rw (take-add n m (drop p l), drop-drop n p l, number_append, long)
+
+pub stored-split-big : (n m : ℕ) (l : List ℕ) (p v : ℕ) → stored big (n + m) l p v ≡ stored big m (stored big n l p (v / 256 ^ m)) (p + n) (v % 256 ^ m)
+unfolding stored bytes_of ordered
+stored-split-big n m l p v =
+    rw (add_comm n m, digits_append m n v, reverse-append, sets-append, length-reverse, length_digits, digits_mod)
+
+pub stored-split-little : (n m : ℕ) (l : List ℕ) (p v : ℕ) → stored little (n + m) l p v ≡ stored little m (stored little n l p (v % 256 ^ n)) (p + n) (v / 256 ^ n)
+unfolding stored bytes_of ordered
+stored-split-little n m l p v = rw (digits_append, sets-append, length_digits, digits_mod)

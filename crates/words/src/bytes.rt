@@ -11,12 +11,15 @@ pub fn zero(bytes: &mut [u8], from: usize, to: usize)
 }
 
 // So many bytes from a place of one list into another, at a place of that one.
+// Kept: `copy_from_slice` of a length that is known when it runs is a call of `memmove`, and the archive for C calls nothing but `memcpy` and `memset`.
 pub fn copy(out: &mut [u8], to: usize, source: &[u8], from: usize, size: usize)
     requires size_in_bounds { to + size ≤ length out.old }
     requires size_in_bounds_2 { from + size ≤ length source.now }
     ensures { out.new ≡ take to out.old ++ (take size (drop from source.now) ++ drop (to + size) out.old) }
 {
-    out[to..to + size].copy_from_slice(&source[from..from + size]);
+    for i in 0..size {
+        out[to + i] = source[from + i];
+    }
 }
 
 // The front of one list into that of another.
