@@ -1,6 +1,8 @@
 pub mod Theorems
 pub mod Word
 pub mod Laws
+pub mod Four
+pub mod One
 pub mod Std
 pub mod Points
 pub mod Copies
