@@ -1,6 +1,12 @@
 -- Two answers that meet a public function's contract agree.
 use mathlib.Core.Path.{sym, ◌∙◌}
 use Rattle.general.specs.OneAnswer.{OneAnswer}
+use Rattle.std.specs.Prelude.{ℕ, Bool}
+use denote.RattleType.{RattleType}
+use denote.Param.Laws.{Laws}
+use mir.Syntax.{Dict}
+use Rattle.bech32m.specs.Text.{Tests}
+use Rattle.bech32m.specs.contracts.first_from.F-Fn.{Ghosts, words}
 use Rattle.bech32m.proofs as here
 
 pub character-of-one : OneAnswer 0 here.charset.character_of.Kinds.ps here.charset.character_of.Kinds.r here.charset.character_of.Reads.Post
@@ -27,8 +33,13 @@ is-unknown-one κs a z z' e e' p q = p ∙ sym q
 pub is-of-one : OneAnswer 0 here.is_of.Kinds.ps here.is_of.Kinds.r here.is_of.Reads.Post
 is-of-one κs a z z' e e' p q = p ∙ sym q
 
-pub first-from-one : OneAnswer 1 here.first_from.Kinds.ps here.first_from.Kinds.r here.first_from.Reads.Post
-first-from-one κs a z z' e e' p q = p ∙ sym q
+-- where the test that a caller passes answers by a definition
+pub first-from-one : (F : RattleType) (laws : Laws F) (says : Ghosts F) (d₁ d₂ d₃ d₄ : Dict) → OneAnswer 2 (here.first_from.Kinds.ps F laws) (here.first_from.Kinds.r F laws)
+    (λ κs a z e. ((test : ℕ → Bool) × Tests ((words F says).post a.0) test) × here.first_from.Reads.Post F laws says d₁ d₂ d₃ d₄ κs a z e)
+first-from-one F laws says d₁ d₂ d₃ d₄ κs a z z' e e' p q = p.1 p.0.0 p.0.1 ∙ sym (q.1 p.0.0 p.0.1)
+
+pub first-of-kind-one : OneAnswer 1 here.first_of_kind.Kinds.ps here.first_of_kind.Kinds.r here.first_of_kind.Reads.Post
+first-of-kind-one κs a z z' e e' p q = p ∙ sym q
 
 pub verify-characters-one : OneAnswer 2 here.verify_characters.Kinds.ps here.verify_characters.Kinds.r here.verify_characters.Reads.Post
 verify-characters-one κs a z z' e e' p q = p ∙ sym q

@@ -1,5 +1,5 @@
 -- The characters of a string, each by its ASCII number, and their places, counted from 0. Definitions only.
-use Rattle.std.specs.Prelude.{Bool, true, false, cond, ◌&&◌, List, [], ◌∷◌, Option, None, Some, ℕ, ◌+◌, leb}
+use Rattle.std.specs.Prelude.{Bool, true, false, cond, ◌&&◌, List, [], ◌∷◌, Option, None, Some, ℕ, ◌+◌, ◌<◌, ◌≡◌, leb}
 
 -- ---- characters
 
@@ -14,6 +14,10 @@ is_upper b = leb 65 b && leb b 90
 -- a letter in lower case; what is no letter stays
 abbrev pub lowered : ℕ → ℕ
 lowered b = cond (is_upper b) (b + 32) b
+
+-- answers about bytes that are those of a test
+abbrev pub Tests : (ℕ → Bool → Type 0) → (ℕ → Bool) → Type 0
+Tests answers t = (b : ℕ) (r : Bool) → b < 256 → answers b r → r ≡ t b
 
 -- ---- places
 

@@ -1,8 +1,8 @@
 // Bech32m, the checksum and the strings of BIP 350, over any prefix: a string is a prefix, the separator `1` and values of five bits, a character each, of which the last six are the checksum.
 #![tactic(auto)]
 
-ghost use Rattle.std.specs.Prelude.{◌≡◌, Some, map, drop};
-ghost use Rattle.bech32m.specs.Text.{is_lower, is_upper, lowered, first_from};
+ghost use Rattle.std.specs.Prelude.{◌≡◌, ℕ, Bool, Some, map, drop};
+ghost use Rattle.bech32m.specs.Text.{Tests, is_lower, is_upper, lowered, first_from};
 ghost use Rattle.bech32m.specs.Checksum.{value_of, digits, chosen, generators, step, polymod, expanded, verified};
 ghost use Rattle.bech32m.specs.Checksum.{created};
 ghost use Rattle.bech32m.specs.Valid.{is_unprintable, is_unknown, is_of, is_mixed, separator_of, is_valid_at, is_valid};
@@ -10,7 +10,7 @@ ghost use Rattle.bech32m.specs.Valid.{is_unprintable, is_unknown, is_of, is_mixe
 pub mod charset;
 
 // What is looked for in a string.
-// Kept: a function that takes a test asks that it can be called with any character; `first_from`, which takes a kind, asks nothing.
+// Kept: a function that takes a test, as `first_from`, asks that it can be called with any character; `first_of_kind` asks nothing.
 #[derive(Clone, Copy)]
 pub enum Kind {
     // A letter from a to z.
@@ -71,8 +71,16 @@ pub fn lowered(character: u8) -> u8
     character.to_ascii_lowercase()
 }
 
+// The first character that passes a test, from a place on.
+pub fn first_from<F: Fn(u8) -> bool>(is: F, text: &[u8], from: usize) -> Option<usize>
+    requires { F.IsAlwaysCallable is }
+    ensures { (test : ℕ → Bool) → Tests (F.post is) test → result ≡ first_from test from (drop from text.now) }
+{
+    (from..text.len()).find(|i| is(text[*i]))
+}
+
 // The first character of a kind, from a place on.
-pub fn first_from(kind: Kind, text: &[u8], from: usize) -> Option<usize>
+pub fn first_of_kind(kind: Kind, text: &[u8], from: usize) -> Option<usize>
     ensures { result ≡ first_from (is_of kind) from (drop from text.now) }
 {
     (from..text.len()).find(|i| is_of(kind, text[*i]))
@@ -182,4 +190,26 @@ pub fn is_valid(text: &[u8]) -> bool
         && !is_mixed(text)
         && text.len() <= 90
         && separator_of(text).is_some_and(|at| is_valid_at(text, at))
+}
+
+#[cfg(test)]
+mod tests {
+    use super::*;
+
+    // In `1qA1b` the places of a `1` are 0 and 3, that of a capital letter is 2.
+    #[test]
+    fn places_by_any_test(rt: HostRuntime) {
+        let text = b"1qA1b".as_slice();
+        for (from, place) in [
+            (0, Some(0)),
+            (1, Some(3)),
+            (3, Some(3)),
+            (4, None),
+            (6, None),
+        ] {
+            assert_eq!(rt; first_from(|c| c == b'1', text, from), place, "from {from}");
+        }
+        assert_eq!(rt; first_from(is_upper, text, 0), Some(2));
+        assert_eq!(rt; first_of_kind(Kind::Upper, text, 0), Some(2));
+    }
 }

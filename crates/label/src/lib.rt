@@ -97,16 +97,16 @@ fn mixed_at(text: &[u8]) -> Option<usize>
     ensures { result ≡ mixed_at text.now }
 {
     if !text.is_empty() && bech32m::is_lower(text[0]) {
-        return bech32m::first_from(Kind::Upper, text, 0);
+        return bech32m::first_of_kind(Kind::Upper, text, 0);
     }
-    bech32m::first_from(Kind::Lower, text, 0)
+    bech32m::first_of_kind(Kind::Lower, text, 0)
 }
 
 // The first character behind the prefix that has no value.
 fn unknown_at(text: &[u8]) -> Option<usize>
     ensures { result ≡ unknown_at text.now }
 {
-    bech32m::first_from(Kind::Unknown, text, 5)
+    bech32m::first_of_kind(Kind::Unknown, text, 5)
 }
 
 fn mistyped(fault: LabelFault, place: usize) -> Result<Cell, Refusal>

@@ -17,7 +17,7 @@ mixed-by s e = ap (λ (b : Bool). first_from (cond b is_upper is_lower) 0 s) e
 pub returns-then-is_lower : goal.returns-then-is_lower
 unfolding is_of
 returns-then-is_lower c =
-    c.first_from.ensures ∙ sym (mixed-by c.args.text.now (sym c.is_lower.ensures ∙ c.if-is_lower.true))
+    c.first_of_kind.ensures ∙ sym (mixed-by c.args.text.now (sym c.is_lower.ensures ∙ c.if-is_lower.true))
 
 pub returns : goal.returns
 unfolding is_of
@@ -28,4 +28,4 @@ returns c =
       | else-not-is_empty-via-then-not-is_empty+else-is_lower w ↦ sym w.is_lower.ensures ∙ w.if-is_lower.false
       | else-not-is_empty-via-else-not-is_empty w ↦ no-first text (search rules)
     ] in
-    c.first_from-2.ensures ∙ sym (mixed-by text lower)
+    c.first_of_kind-2.ensures ∙ sym (mixed-by text lower)

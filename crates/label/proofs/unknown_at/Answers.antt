@@ -5,4 +5,4 @@ use Rattle.label.proofs.unknown_at.Goals as goal
 
 pub returns : goal.returns
 unfolding is_of unknown_at
-returns c = c.first_from.ensures
+returns c = c.first_of_kind.ensures
